@@ -1,0 +1,18 @@
+-- The calls' facts in a chain.
+use borrow.Author.Needs.{needs}
+use Rattle.output.specs.Number.{wholeDifference}
+use Rattle.output.proofs.OutputLaws.{same}
+use Rattle.output.proofs.put_whole_difference.Statement.{statement}
+use Rattle.output.proofs.put_whole_difference.Tie as tie
+
+returns : tie.Need-returns
+unfolding wholeDifference
+returns c =
+    let c0 = c .before .before in
+    c0 .put-decimal .ensures
+
+same-length : tie.Need-same-length
+same-length c = same (returns c)
+
+pub put-whole-difference-spec : {M : Type 1} → statement M
+put-whole-difference-spec = tie.close (tie.spec (λ c κs. search needs) same-length returns)

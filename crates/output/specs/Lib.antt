@@ -1,0 +1,4 @@
+pub mod Text
+pub mod Output
+pub mod Number
+pub mod Read
