@@ -1,0 +1,4 @@
+pub mod MessageLaws
+pub mod DeliveryLaws
+pub mod Cut
+pub mod Examples
