@@ -1,0 +1,11 @@
+pub mod At
+pub mod UnescapeLaws
+pub mod IdLaws
+pub mod SameLaws
+pub mod WordLaws
+pub mod HeadLaws
+pub mod CopyLaws
+pub mod Carried
+pub mod ReadBack
+pub mod Edges
+pub mod FirstLine

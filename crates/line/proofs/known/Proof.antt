@@ -1,0 +1,32 @@
+-- Each variant is the meaning that the call gives.
+use borrow.Author.Needs.{needs}
+use mathlib.Core.Path.{ap, sym, _∙_}
+use Rattle.line.specs.Line as spec
+use Rattle.line.proofs.known.Statement.{statement}
+use Rattle.line.proofs.known.Tie as tie
+
+escape-requires : tie.Need-escape-requires
+escape-requires c κs = search needs
+
+enum-told : tie.Need-enum-told
+enum-told c = search needs
+
+enum-told-2 : tie.Need-enum-told-2
+enum-told-2 c = search needs
+
+enum-told-3 : tie.Need-enum-told-3
+enum-told-3 c = search needs
+
+returns : tie.Need-returns
+returns c = ap spec.known (sym (c .enum-told .given .1) ∙ c .before .before .escape .ensures)
+
+returns-2 : tie.Need-returns-2
+returns-2 c = ap spec.known (sym (c .enum-told2 .given .1) ∙ c .before .before .escape .ensures)
+
+returns-3 : tie.Need-returns-3
+returns-3 c = ap spec.known (sym (c .enum-told3 .given .1) ∙ c .before .before .escape .ensures)
+
+pub known-spec : {M : Type 1} → statement M
+known-spec =
+    tie.close
+    (tie.spec escape-requires enum-told enum-told-2 enum-told-3 returns returns-2 returns-3)

@@ -1,0 +1,5 @@
+pub mod Line
+pub mod Argument
+pub mod Answer
+pub mod Words
+pub mod Edges

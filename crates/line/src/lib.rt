@@ -1,0 +1,513 @@
+//! Message lines: the bytes of a line to a message (document 01, "Message lines"). A line is cut at its spaces and tabs; each word
+//! behind the first is an argument, which is found again by its place.
+ghost use mathlib.Core.Path.{_≡_};
+ghost use mathlib.Core.List.{[], _++_};
+ghost use Prim.Native.Nat.{_+_, _-_, _≤_, _<_};
+ghost use lib.ListN.{length, getD, take, drop};
+ghost use Rattle.output.specs.Output.{output, Wrote};
+ghost use Rattle.output.specs.Read.{upTo};
+ghost use Rattle.output.specs.Text as texts;
+ghost use Rattle.line.specs.Line as spec;
+ghost use Rattle.line.specs.Argument as arguments;
+ghost use Rattle.line.specs.Answer as answers;
+ghost use Rattle.line.specs.Words.{NextWord, IsWord};
+
+// What a backslash and a letter stand for.
+pub enum Meaning {
+    Byte(u8),
+    Nothing,
+    Unknown,
+}
+
+// A message identifier: 0 for none.
+pub enum Identifier {
+    Bad,
+    Is(u64),
+}
+
+// The number of arguments of a line, where each is well formed.
+pub enum Count {
+    Refused,
+    Are(usize),
+}
+
+// Where a word starts, and where it ends.
+pub struct Span {
+    pub from: usize,
+    pub to: usize,
+}
+
+// A message's kind byte, the length of its name, its identifier (0 for none) and the number of its arguments.
+pub struct Header {
+    pub kind: u8,
+    pub name: usize,
+    pub id: u64,
+    pub count: usize,
+}
+
+// What a line is: no message, or a message.
+pub enum Parsed {
+    Malformed,
+    Message(Header),
+}
+
+// What became of a text that was to be copied into a buffer: its length, or that the buffer is too short.
+pub enum Copied {
+    Whole(usize),
+    Short,
+}
+
+// A space or a tab.
+fn blank(b: u8) -> bool
+    ensures { λ r. ⌜ r ≡ spec.blank b ⌝ }
+{
+    (b == b' ') | (b == 9)
+}
+
+fn letter(b: u8) -> bool
+    ensures { λ r. ⌜ r ≡ spec.letter b ⌝ }
+{
+    ((b'A' <= b) & (b <= b'Z')) | ((b'a' <= b) & (b <= b'z'))
+}
+
+fn name_byte(b: u8) -> bool
+    ensures { λ r. ⌜ r ≡ spec.nameByte b ⌝ }
+{
+    letter(b) | (output::is_digit(b) | (b == b'-'))
+}
+
+fn kind_byte(b: u8) -> bool
+    ensures { λ r. ⌜ r ≡ spec.kindByte b ⌝ }
+{
+    (b == b'?') | ((b == b'!') | (b == b'#'))
+}
+
+// A byte that stands raw in an argument.
+fn plain(b: u8) -> bool
+    ensures { λ r. ⌜ r ≡ spec.plain b ⌝ }
+{
+    match b {
+        b'\\' => false,
+        b' ' => false,
+        0 => false,
+        10 => false,
+        13 => false,
+        27 => false,
+        9 => false,
+        _ => true,
+    }
+}
+
+// What the byte after a backslash stands for.
+fn escape(c: u8) -> Meaning
+    ensures { λ r. ⌜ r ≡ spec.escapeOf c ⌝ }
+{
+    match c {
+        b'\\' => Meaning::Byte(b'\\'),
+        b'_' => Meaning::Byte(b' '),
+        b'0' => Meaning::Byte(0),
+        b'n' => Meaning::Byte(10),
+        b'r' => Meaning::Byte(13),
+        b'e' => Meaning::Byte(27),
+        b't' => Meaning::Byte(9),
+        b'@' => Meaning::Nothing,
+        _ => Meaning::Unknown,
+    }
+}
+
+fn known(c: u8) -> bool
+    ensures { λ r. ⌜ r ≡ spec.known (spec.escapeOf c) ⌝ }
+{
+    match escape(c) {
+        Meaning::Byte(_) => true,
+        Meaning::Nothing => true,
+        Meaning::Unknown => false,
+    }
+}
+
+// How many spaces and tabs `s` starts with.
+fn lead(s: &[u8]) -> usize
+    ensures { λ r. ⌜ r ≡ answers.lead (now (s .entry)) ⌝ }
+{
+    let mut i = 0;
+    while i < s.len() {
+        if !blank(s[i]) {
+            return i;
+        }
+        i += 1;
+    }
+    i
+}
+
+// The length of the word that `s` starts with.
+fn word_len(s: &[u8]) -> usize
+    ensures { λ r. ⌜ r ≡ length (spec.word (now (s .entry))) ⌝ }
+{
+    let mut i = 0;
+    while i < s.len() {
+        if blank(s[i]) {
+            return i;
+        }
+        i += 1;
+    }
+    i
+}
+
+// The length of the name that `s` starts with.
+fn name_len(s: &[u8]) -> usize
+    ensures { λ r. ⌜ r ≡ length (spec.nameOf (now (s .entry))) ⌝ }
+{
+    let mut i = 0;
+    while i < s.len() {
+        if !name_byte(s[i]) {
+            return i;
+        }
+        i += 1;
+    }
+    i
+}
+
+// Whether a word is plain bytes and known escapes.
+fn valid(w: &[u8]) -> bool
+    ensures { λ r. ⌜ r ≡ spec.valid (now (w .entry)) ⌝ }
+{
+    let mut i = 0;
+    while i < w.len() {
+        if w[i] == b'\\' {
+            if w.len() <= i + 1 {
+                return false;
+            }
+            if !known(w[i + 1]) {
+                return false;
+            }
+            i += 2;
+        } else {
+            if !plain(w[i]) {
+                return false;
+            }
+            i += 1;
+        }
+    }
+    true
+}
+
+// The length of the text that a word stands for.
+fn text_len(w: &[u8]) -> usize
+    ensures { λ r. ⌜ r ≡ length (spec.unescape (now (w .entry))) ⌝ }
+{
+    let mut n = 0;
+    let mut i = 0;
+    while i < w.len() {
+        if w[i] != b'\\' {
+            n += 1;
+            i += 1;
+        } else {
+            if w.len() <= i + 1 {
+                return n;
+            }
+            if let Meaning::Byte(_) = escape(w[i + 1]) {
+                n += 1;
+                i += 2;
+            } else {
+                i += 2;
+            }
+        }
+    }
+    n
+}
+
+// The text that a word stands for, written at `at`.
+fn put_unescaped(into: &mut [u8], at: usize, w: &[u8]) -> usize
+    ensures { λ r. ⌜ Wrote (output (now (into .entry)) at) (spec.unescape (now (w .entry))) (output (now (into .exit)) r) ⌝ }
+{
+    let mut p = at;
+    let mut i = 0;
+    while i < w.len() {
+        let b = w[i];
+        if b != b'\\' {
+            p = output::put_byte(into, p, b);
+            i += 1;
+        } else {
+            if w.len() <= i + 1 {
+                return p;
+            }
+            if let Meaning::Byte(x) = escape(w[i + 1]) {
+                p = output::put_byte(into, p, x);
+                i += 2;
+            } else {
+                i += 2;
+            }
+        }
+    }
+    p
+}
+
+// The digits of an identifier, up to the `]` that ends `t`.
+fn id_from(t: &[u8]) -> Identifier
+    ensures { λ r. ⌜ r ≡ spec.idFrom 0 (now (t .entry)) ⌝ }
+{
+    let mut n: u64 = 0;
+    let mut i = 0;
+    while i < t.len() {
+        let b = t[i];
+        if !output::is_digit(b) {
+            if b != b']' {
+                return Identifier::Bad;
+            }
+            if n < 1 {
+                return Identifier::Bad;
+            }
+            if i + 1 != t.len() {
+                return Identifier::Bad;
+            }
+            return Identifier::Is(n);
+        }
+        n = n * 10 + wide(b - 48);
+        if n < 1 {
+            return Identifier::Bad;
+        }
+        if 2147483647 < n {
+            return Identifier::Bad;
+        }
+        i += 1;
+    }
+    Identifier::Bad
+}
+
+fn wide(b: u8) -> u64
+    ensures { λ r. ⌜ r ≡ b ⌝ }
+{
+    b as u64
+}
+
+// What is behind the name in a head: nothing, or an identifier in brackets.
+fn id_of(t: &[u8]) -> Identifier
+    ensures { λ r. ⌜ r ≡ spec.idOf (now (t .entry)) ⌝ }
+{
+    if t.len() == 0 {
+        return Identifier::Is(0);
+    }
+    if t[0] != b'[' {
+        return Identifier::Bad;
+    }
+    id_from(&t[1..])
+}
+
+// Whether two texts are the same.
+pub fn same(a: &[u8], b: &[u8]) -> bool
+    ensures { λ r. ⌜ r ≡ texts.same (now (a .entry)) (now (b .entry)) ⌝ }
+{
+    if a.len() != b.len() {
+        return false;
+    }
+    let mut i = 0;
+    while i < a.len() {
+        if a[i] != b[i] {
+            return false;
+        }
+        i += 1;
+    }
+    true
+}
+
+// The first word at or after `from`; where there is none, an empty one.
+fn next_word(s: &[u8], from: usize) -> Span
+    requires { ⌜ from ≤ length (now s) ⌝ }
+    ensures { λ r. ⌜ NextWord (now (s .entry)) from r ⌝ }
+{
+    let a = from + lead(&s[from..]);
+    let e = a + word_len(&s[a..]);
+    Span { from: a, to: e }
+}
+
+// The number of the arguments of a line, where each is valid.
+fn arguments(line: &[u8]) -> Count
+    ensures { λ r. ⌜ r ≡ answers.countOf (spec.behind (now (line .entry))) ⌝ }
+{
+    let mut p = word_len(line);
+    let mut n = 0;
+    while p < line.len() {
+        let w = next_word(line, p);
+        let a = w.from;
+        let e = w.to;
+        if a == e {
+            return Count::Are(n);
+        }
+        if !valid(&line[a..e]) {
+            return Count::Refused;
+        }
+        n += 1;
+        p = e;
+    }
+    Count::Are(n)
+}
+
+// The word of argument `k`; where there is none, an empty one.
+fn argument_word(line: &[u8], k: usize) -> Span
+    ensures { λ r. ⌜ IsWord (now (line .entry)) r (getD (spec.behind (now (line .entry))) k []) ⌝ }
+{
+    let mut p = word_len(line);
+    let mut left = k;
+    while 0 < left {
+        let w = next_word(line, p);
+        p = w.to;
+        left -= 1;
+    }
+    next_word(line, p)
+}
+
+// What the name and the identifier of a head say, of a line of `kind` with `count` arguments.
+fn named(t: &[u8], kind: u8, count: usize) -> Parsed
+    ensures { λ r. ⌜ r ≡ answers.namedRead kind (now (t .entry)) count ⌝ }
+{
+    let n = name_len(t);
+    if 64 < n {
+        return Parsed::Malformed;
+    }
+    if n == 0 {
+        return Parsed::Malformed;
+    }
+    if !letter(t[0]) {
+        return Parsed::Malformed;
+    }
+    let Identifier::Is(id) = id_of(&t[n..]) else {
+        return Parsed::Malformed;
+    };
+    Parsed::Message(Header {
+        kind: kind,
+        name: n,
+        id: id,
+        count: count,
+    })
+}
+
+// What the first word of a line says, of a line with `count` arguments.
+fn head(w: &[u8], count: usize) -> Parsed
+    ensures { λ r. ⌜ r ≡ answers.headRead (now (w .entry)) count ⌝ }
+{
+    if w.len() == 0 {
+        return Parsed::Malformed;
+    }
+    let kind = w[0];
+    if !kind_byte(kind) {
+        return Parsed::Malformed;
+    }
+    named(&w[1..], kind, count)
+}
+
+// Whether a line is empty or has spaces and tabs alone. One of over 2,048 bytes is no line, and so is not blank.
+pub fn is_blank(line: &[u8]) -> bool
+    ensures { λ r. ⌜ r ≡ spec.blankLine (now (line .entry)) ⌝ }
+{
+    (line.len() <= 2048) & (lead(line) == line.len())
+}
+
+// A line that is not blank: the message that it is, or malformed, also where it has over 2,048 bytes.
+pub fn read(line: &[u8]) -> Parsed
+    ensures { λ r. ⌜ r ≡ answers.answer (spec.parse (now (line .entry))) ⌝ }
+{
+    if 2048 < line.len() {
+        return Parsed::Malformed;
+    }
+    let Count::Are(count) = arguments(line) else {
+        return Parsed::Malformed;
+    };
+    let e = word_len(line);
+    head(&line[..e], count)
+}
+
+// The text of argument `k`, copied to the start of `into`; where that is too short, `into` is left as it was.
+pub fn argument(line: &[u8], k: usize, into: &mut [u8]) -> Copied
+    ensures { λ r. ⌜ r ≡ arguments.copied (arguments.argument (now (line .entry)) k) (now (into .entry)) ⌝ }
+    ensures { λ r. ⌜ now (into .exit) ≡ arguments.copiedInto (arguments.argument (now (line .entry)) k) (now (into .entry)) ⌝ }
+{
+    let w = argument_word(line, k);
+    let a = w.from;
+    let e = w.to;
+    let n = text_len(&line[a..e]);
+    if into.len() < n {
+        return Copied::Short;
+    }
+    put_unescaped(into, 0, &line[a..e]);
+    Copied::Whole(n)
+}
+
+// Whether `b` stands at `j` in `text`.
+fn begins(text: &[u8], j: usize, b: u8) -> bool
+    ensures { λ r. ⌜ r ≡ answers.begins b (drop j (now (text .entry))) ⌝ }
+{
+    if text.len() <= j {
+        return false;
+    }
+    b == text[j]
+}
+
+// Whether a word stands for `text`.
+fn word_is(w: &[u8], text: &[u8]) -> bool
+    ensures { λ r. ⌜ r ≡ texts.same (spec.unescape (now (w .entry))) (now (text .entry)) ⌝ }
+{
+    let mut i = 0;
+    let mut j = 0;
+    while i < w.len() {
+        let b = w[i];
+        if b != b'\\' {
+            if !begins(text, j, b) {
+                return false;
+            }
+            i += 1;
+            j += 1;
+        } else {
+            if w.len() <= i + 1 {
+                return j == text.len();
+            }
+            if let Meaning::Byte(x) = escape(w[i + 1]) {
+                if !begins(text, j, x) {
+                    return false;
+                }
+                i += 2;
+                j += 1;
+            } else {
+                i += 2;
+            }
+        }
+    }
+    j == text.len()
+}
+
+// Whether argument `k` of a line is `text`.
+pub fn argument_is(line: &[u8], k: usize, text: &[u8]) -> bool
+    ensures { λ r. ⌜ r ≡ texts.same (arguments.argument (now (line .entry)) k) (now (text .entry)) ⌝ }
+{
+    let w = argument_word(line, k);
+    let a = w.from;
+    let e = w.to;
+    word_is(&line[a..e], text)
+}
+
+// Whether the name of a line's message, of `n` bytes, is `text`.
+pub fn name_is(line: &[u8], n: usize, text: &[u8]) -> bool
+    ensures { λ r. ⌜ r ≡ texts.same (take n (drop 1 (now (line .entry)))) (now (text .entry)) ⌝ }
+{
+    if line.len() == 0 {
+        return same(line, text);
+    }
+    let t = &line[1..];
+    if t.len() <= n {
+        return same(t, text);
+    }
+    same(&t[..n], text)
+}
+
+// The length of the first line in `s`: the bytes before the first byte 10, or all of them.
+pub fn line_len(s: &[u8]) -> usize
+    ensures { λ r. ⌜ r ≡ length (upTo 10 (now (s .entry))) ⌝ }
+{
+    let mut i = 0;
+    while i < s.len() {
+        if s[i] == 10 {
+            return i;
+        }
+        i += 1;
+    }
+    i
+}
