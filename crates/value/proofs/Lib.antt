@@ -1,0 +1,10 @@
+pub mod BitLaws
+pub mod IntegerLaws
+pub mod SignedLaws
+pub mod DoubleLaws
+pub mod ValueLaws
+pub mod DigitLaws
+pub mod DecimalLaws
+pub mod ParameterLaws
+pub mod ParameterExamples
+pub mod StatusLaws

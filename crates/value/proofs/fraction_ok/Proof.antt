@@ -1,0 +1,27 @@
+-- The tests are those of `fractionOk`.
+use Rattle.value.proofs.DecimalLaws.{fraction-none, fraction-some}
+use borrow.Author.Needs.{needs}
+use Rattle.value.proofs.fraction_ok.Statement.{statement}
+use Rattle.value.proofs.fraction_ok.Tie as tie
+
+returns : tie.Need-returns
+returns c = fraction-none (c .before .before .args .s .now) (c .if1 .taken)
+
+behind-point-requires : tie.Need-behind-point-requires
+behind-point-requires c κs = search needs
+
+shared-slice-read-result : tie.Need-shared-slice-read-result
+shared-slice-read-result c = search needs
+
+digits-len-requires : tie.Need-digits-len-requires
+digits-len-requires c κs = search needs
+
+returns-2 : tie.Need-returns-2
+returns-2 c =
+    let b = c .before .before in
+    fraction-some (b .before .before .before .args .s .now) (b .behind-point .result .now) (c .digits-len .result) (b .before .if1 .left) (b .behind-point .ensures) (c .digits-len .ensures)
+
+pub fraction-ok-spec : {M : Type 1} → statement M
+fraction-ok-spec =
+    tie.close
+    (tie.spec returns behind-point-requires shared-slice-read-result digits-len-requires returns-2)

@@ -1,0 +1,30 @@
+-- The whole number that was read, in millionths.
+use mathlib.Core.Path.{sym, _∙_}
+use native.Mathlib.Omega.{arith}
+use Rattle.value.proofs.DecimalLaws.{answer-below, in-millionths}
+use borrow.Author.Needs.{needs}
+use Rattle.value.proofs.read_integer_difference.Statement.{statement}
+use Rattle.value.proofs.read_integer_difference.Tie as tie
+
+read-decimal-requires : tie.Need-read-decimal-requires
+read-decimal-requires c κs = search needs
+
+enum-known-n : tie.Need-enum-known-n
+enum-known-n c = search needs
+
+enum-told : tie.Need-enum-told
+enum-told c = search needs
+
+returns : tie.Need-returns
+returns c = in-millionths _ (c .before .before .before .before .args .t .now) (sym (c .enum-told .given .1) ∙ c .before .before .read-decimal .ensures)
+
+mul-t4 : tie.Need-mul-t4
+mul-t4 c =
+    omega (arith, answer-below 0 0 4294967295 (c .before .before .before .before .before .args .t .now) (c .before .n .given .0 .0) (sym (c .before .n .given .1) ∙ c .before .before .before .read-decimal .ensures))
+
+returns-2 : tie.Need-returns-2
+returns-2 c = in-millionths _ (c .before .before .before .before .before .args .t .now) (sym (c .before .n .given .1) ∙ c .before .before .before .read-decimal .ensures)
+
+pub read-integer-difference-spec : {M : Type 1} → statement M
+read-integer-difference-spec =
+    tie.close (tie.spec read-decimal-requires enum-known-n enum-told returns mul-t4 returns-2)

@@ -1,0 +1,15 @@
+-- A call with the numbers of `shortestOf`.
+use Rattle.value.specs.Parameter.{shortestOf}
+use borrow.Author.Needs.{needs}
+use Rattle.value.proofs.read_shortest.Statement.{statement}
+use Rattle.value.proofs.read_shortest.Tie as tie
+
+read-decimal-requires : tie.Need-read-decimal-requires
+read-decimal-requires c κs = search needs
+
+returns : tie.Need-returns
+unfolding shortestOf
+returns c = c .read-decimal .ensures
+
+pub read-shortest-spec : {M : Type 1} → statement M
+read-shortest-spec = tie.close (tie.spec read-decimal-requires returns)

@@ -1,0 +1,17 @@
+-- The test is that of `below`.
+use borrow.Author.Needs.{needs}
+use borrow.Author.Tests.{lt-ltb, le-ltb}
+use Rattle.value.proofs.sample_below.Statement.{statement}
+use Rattle.value.proofs.sample_below.Tie as tie
+
+valid-sample-requires : tie.Need-valid-sample-requires
+valid-sample-requires c κs = search needs
+
+returns : tie.Need-returns
+returns c = rw (lt-ltb _ _ (c .before .if1 .taken)) (c .valid-sample .ensures)
+
+returns-2 : tie.Need-returns-2
+returns-2 c = rw (le-ltb _ _ (c .if1 .left))
+
+pub sample-below-spec : {M : Type 1} → statement M
+sample-below-spec = tie.close (tie.spec valid-sample-requires returns returns-2)

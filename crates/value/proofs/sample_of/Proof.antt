@@ -1,0 +1,172 @@
+-- Each arm chains what its calls ensure, and the reading is the arm's variant.
+use lib.IntN.{ℤ}
+use mir.Syntax.{w32}
+use mir.ValLaws.{toZ-ofZ}
+use Rattle.value.specs.Integer.{biasedInteger}
+use borrow.Author.Needs.{needs}
+use mathlib.Core.Path.{sym, ap, _∙_}
+use Rattle.value.specs.Reading.{valid, onlyFor, sampleOf}
+use Rattle.value.proofs.sample_of.Statement.{statement}
+use Rattle.value.proofs.sample_of.Tie as tie
+
+enum-known-reading : tie.Need-enum-known-reading
+enum-known-reading c = search needs
+
+biased-integer-requires : tie.Need-biased-integer-requires
+biased-integer-requires c κs = search needs
+
+valid-sample-requires : tie.Need-valid-sample-requires
+valid-sample-requires c κs = search needs
+
+only-for-requires : tie.Need-only-for-requires
+only-for-requires c κs = search needs
+
+enum-known-reading-2 : tie.Need-enum-known-reading-2
+enum-known-reading-2 c = search needs
+
+float-sample-requires : tie.Need-float-sample-requires
+float-sample-requires c κs = search needs
+
+only-for-requires-2 : tie.Need-only-for-requires-2
+only-for-requires-2 c κs = search needs
+
+enum-known-reading-3 : tie.Need-enum-known-reading-3
+enum-known-reading-3 c = search needs
+
+cast-sample-below : tie.Need-cast-sample-below
+cast-sample-below c = search needs
+
+sample-below-requires : tie.Need-sample-below-requires
+sample-below-requires c κs = search needs
+
+only-for-requires-3 : tie.Need-only-for-requires-3
+only-for-requires-3 c κs = search needs
+
+enum-known-reading-4 : tie.Need-enum-known-reading-4
+enum-known-reading-4 c = search needs
+
+cast-sample-below-2 : tie.Need-cast-sample-below-2
+cast-sample-below-2 c = search needs
+
+sample-below-requires-2 : tie.Need-sample-below-requires-2
+sample-below-requires-2 c κs = search needs
+
+only-for-requires-4 : tie.Need-only-for-requires-4
+only-for-requires-4 c κs = search needs
+
+enum-known-reading-5 : tie.Need-enum-known-reading-5
+enum-known-reading-5 c = search needs
+
+sample-below-requires-3 : tie.Need-sample-below-requires-3
+sample-below-requires-3 c κs = search needs
+
+only-for-requires-5 : tie.Need-only-for-requires-5
+only-for-requires-5 c κs = search needs
+
+enum-told : tie.Need-enum-told
+enum-told c = search needs
+
+invalid-sample-requires : tie.Need-invalid-sample-requires
+invalid-sample-requires c κs = search needs
+
+enum-told-2 : tie.Need-enum-told-2
+enum-told-2 c = search needs
+
+invalid-sample-requires-2 : tie.Need-invalid-sample-requires-2
+invalid-sample-requires-2 c κs = search needs
+
+enum-told-3 : tie.Need-enum-told-3
+enum-told-3 c = search needs
+
+invalid-sample-requires-3 : tie.Need-invalid-sample-requires-3
+invalid-sample-requires-3 c κs = search needs
+
+returns : tie.Need-returns
+unfolding sampleOf
+returns c =
+    let s = c .before .before .before .before .before .before in
+    c .only-for .ensures
+    ∙ ap (onlyFor (s .args .kind) 1) (c .before .valid-sample .ensures ∙ ap valid (c .before .before .biased-integer .ensures))
+    ∙ ap (λ (z : ℤ). onlyFor (s .args .kind) 1 (valid (biasedInteger z))) (toZ-ofZ w32 (c .before .before .before .before .reading .given .0 .0) (search needs))
+    ∙ sym (ap (sampleOf (s .args .kind) (s .args .options)) (c .before .before .before .before .reading .given .1))
+
+returns-2 : tie.Need-returns-2
+unfolding sampleOf
+returns-2 c =
+    let s = c .before .before .before .before .before in
+    c .only-for2 .ensures
+    ∙ ap (onlyFor (s .args .kind) 2) (c .before .float-sample .ensures)
+    ∙ sym (ap (sampleOf (s .args .kind) (s .args .options)) (c .before .before .before .reading2 .given .1))
+
+returns-3 : tie.Need-returns-3
+unfolding sampleOf
+returns-3 c =
+    let s = c .before .before .before .before .before in
+    c .only-for3 .ensures
+    ∙ ap (onlyFor (s .args .kind) 3) (c .before .sample-below .ensures)
+    ∙ sym (ap (sampleOf (s .args .kind) (s .args .options)) (c .before .before .before .reading3 .given .1))
+
+returns-4 : tie.Need-returns-4
+unfolding sampleOf
+returns-4 c =
+    let s = c .before .before .before .before .before in
+    c .only-for4 .ensures
+    ∙ ap (onlyFor (s .args .kind) 4) (c .before .sample-below2 .ensures)
+    ∙ sym (ap (sampleOf (s .args .kind) (s .args .options)) (c .before .before .before .reading4 .given .1))
+
+returns-5 : tie.Need-returns-5
+unfolding sampleOf
+returns-5 c =
+    let s = c .before .before .before .before .before in
+    c .only-for5 .ensures
+    ∙ ap (onlyFor (s .args .kind) 5) (c .before .sample-below3 .ensures)
+    ∙ sym (ap (sampleOf (s .args .kind) (s .args .options)) (c .before .before .before .reading5 .given .1))
+
+returns-6 : tie.Need-returns-6
+unfolding sampleOf
+returns-6 c = cc
+
+returns-7 : tie.Need-returns-7
+unfolding sampleOf
+returns-7 c = cc
+
+returns-8 : tie.Need-returns-8
+unfolding sampleOf
+returns-8 c = cc
+
+pub sample-of-spec : {M : Type 1} → statement M
+sample-of-spec =
+    tie.close
+    (tie.spec
+    enum-known-reading
+    biased-integer-requires
+    valid-sample-requires
+    only-for-requires
+    enum-known-reading-2
+    float-sample-requires
+    only-for-requires-2
+    enum-known-reading-3
+    cast-sample-below
+    sample-below-requires
+    only-for-requires-3
+    enum-known-reading-4
+    cast-sample-below-2
+    sample-below-requires-2
+    only-for-requires-4
+    enum-known-reading-5
+    sample-below-requires-3
+    only-for-requires-5
+    enum-told
+    invalid-sample-requires
+    enum-told-2
+    invalid-sample-requires-2
+    enum-told-3
+    invalid-sample-requires-3
+    returns
+    returns-2
+    returns-3
+    returns-4
+    returns-5
+    returns-6
+    returns-7
+    returns-8)

@@ -1,0 +1,55 @@
+-- What a reading becomes (document 01, "Values"): a sample, which is a kind (0 unknown, 1 valid, 2 failure, 3 unreachable, 4 inactive)
+-- and a stored number, or unfit for the sensor's type (1 integer, 2 float, 3 boolean, 4 discrete, 5 timestamp).
+use Prim.Native.Nat.{ℕ, _^_}
+use mathlib.Core.Bool.{cond}
+use lib.Dec.{eqb, ltb}
+use Rattle.value.specs.declared.Fit.{Fit}
+use Rattle.value.specs.declared.Fit.the-variants.{At, Out}
+use Rattle.value.specs.declared.Reading.{Reading}
+use Rattle.value.specs.declared.Reading.the-variants.{Integer, Float, Boolean, Option, Timestamp, Failure, Unreachable, Inactive}
+use Rattle.value.specs.declared.Sample.{Sample}
+use Rattle.value.specs.declared.Sampled.{Sampled}
+use Rattle.value.specs.declared.Sampled.the-variants.{As, Unfit}
+use Rattle.value.specs.Double.{exact1024}
+use Rattle.value.specs.Integer.{biasedInteger}
+
+abbrev pub sample : ℕ → ℕ → Sample
+sample kind number = record { kind = kind; number = number }
+
+abbrev pub valid : ℕ → Sampled
+valid n = As (sample 1 n)
+
+-- for a sensor of type t, a reading of type k
+abbrev pub onlyFor : ℕ → ℕ → Sampled → Sampled
+onlyFor t k a = cond (eqb t k) a Unfit
+
+abbrev pub below : ℕ → ℕ → Sampled
+below limit n = cond (ltb n limit) (valid n) Unfit
+
+abbrev pub ofFit : Fit → Sampled
+ofFit (At n) = valid n
+ofFit Out = Unfit
+
+-- the stored number of "the type's zero (first option for discrete)"
+unfoldable pub zeroOf : ℕ → ℕ
+zeroOf t = cond (eqb t 1) (2 ^ 31) (cond (eqb t 2) (2 ^ 30) 0)
+
+-- "The others carry the type's zero": a sample of another kind than valid
+abbrev pub invalid : ℕ → ℕ → Sample
+invalid t kind = sample kind (zeroOf t)
+
+-- "A fresh sensor is unknown"
+abbrev pub fresh : ℕ → Sample
+fresh t = invalid t 0
+
+-- "A reading is an integer, a float, a boolean, an option .. or a timestamp, or one of failure, unreachable, inactive": at a sensor of type t
+-- with so many options
+unfoldable pub sampleOf : ℕ → ℕ → Reading → Sampled
+sampleOf t options (Integer x) = onlyFor t 1 (valid (biasedInteger x))
+sampleOf t options (Float x) = onlyFor t 2 (ofFit (exact1024 x))
+sampleOf t options (Boolean b) = onlyFor t 3 (below 2 b)
+sampleOf t options (Option i) = onlyFor t 4 (below options i)
+sampleOf t options (Timestamp m) = onlyFor t 5 (below 10000000000000 m)
+sampleOf t options Failure = As (invalid t 2)
+sampleOf t options Unreachable = As (invalid t 3)
+sampleOf t options Inactive = As (invalid t 4)

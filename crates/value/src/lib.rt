@@ -1,0 +1,456 @@
+//! Readings and parameters: what a sensor's reading becomes as a stored number, its status and its text, and the parameters of a
+//! strategy read from their text.
+ghost use mathlib.Core.Path.{_≡_};
+ghost use mathlib.Core.Bool.{cond};
+ghost use Prim.Native.Nat.{_+_, _-_, _*_, _^_, _<_, _≤_, min};
+ghost use lib.Ieee.{binary64, ofBits};
+ghost use lib.ListN.{length, take};
+ghost use Rattle.output.specs.Output.{output, Wrote};
+ghost use Rattle.output.specs.Read.{valueFrom};
+ghost use Rattle.message.specs.Message.{arg};
+ghost use Rattle.value.specs.Double.{exact1024, wholeOf, within, withinSigned};
+ghost use Rattle.value.specs.Integer.{biasedInteger, signed32, word};
+ghost use Rattle.value.specs.Reading.{valid, below, ofFit, invalid, onlyFor, sampleOf, zeroOf};
+ghost use Rattle.value.specs.Status.{rangeStatus, statusOf, statusText};
+ghost use Rattle.value.specs.Value.{valueText};
+ghost use Rattle.value.specs.Parameter.{whole, wholeOk, fractionOk, behindPoint, units, decimalOk, integerDifferenceOf, floatDifferenceOf, periodOf, shortestOf};
+
+// A number of 1024ths plus 2^30, or nothing that fits.
+pub enum Fit {
+    At(u32),
+    Out,
+}
+
+// n 1024ths, negative or not.
+fn fit_size(negative: bool, n: u64) -> Fit
+    ensures { λ r. ⌜ r ≡ within negative n ⌝ }
+{
+    if 1073741824 < n {
+        return Fit::Out;
+    }
+    // at most 2^30, so the cast loses nothing
+    let size = n as u32;
+    if negative {
+        return Fit::At(1073741824 - size);
+    }
+    Fit::At(1073741824 + size)
+}
+
+// digits / 2^shift 1024ths, if whole.
+fn fit_whole(negative: bool, digits: u64, shift: u64) -> Fit
+    ensures { λ r. ⌜ r ≡ wholeOf negative digits (2 ^ shift) ⌝ }
+{
+    if 63 < shift {
+        // below one 1024th
+        if digits == 0 {
+            return fit_size(negative, 0);
+        }
+        return Fit::Out;
+    }
+    let unit: u64 = 1 << shift;
+    let rest = digits % unit;
+    if rest == 0 {
+        return fit_size(negative, digits / unit);
+    }
+    Fit::Out
+}
+
+// The double of this bit pattern, of a NaN's too.
+fn fit_bits(bits: u64) -> Fit
+    ensures { λ r. ⌜ r ≡ exact1024 (ofBits binary64 bits) ⌝ }
+{
+    let negative = 0x8000_0000_0000_0000 <= bits;
+    let field = bits % 0x8000_0000_0000_0000 / 0x10_0000_0000_0000;
+    let digits = bits % 0x10_0000_0000_0000;
+    if field == 0 {
+        return fit_whole(negative, digits, 1064);
+    }
+    if 1043 < field {
+        return Fit::Out;
+    }
+    fit_whole(negative, 0x10_0000_0000_0000 + digits, 1065 - field)
+}
+
+// The reading of a double: an exact multiple of 1/1024 within ±1,048,576.
+pub fn exact_1024ths(x: f64) -> Fit
+    ensures { λ r. ⌜ r ≡ exact1024 x ⌝ }
+{
+    if x != x {
+        return Fit::Out;
+    }
+    let bits: u64 = f64::to_bits(x);
+    fit_bits(bits)
+}
+
+// A signed integer plus 2^31.
+pub fn biased_integer(x: i32) -> u64
+    ensures { λ r. ⌜ r ≡ biasedInteger x ⌝ }
+{
+    (x as i64 + 2147483648) as u64
+}
+
+// Four bytes of a sheet, a signed big-endian number, plus 2^31: the sign bit turned over.
+pub fn biased_word(a: u8, b: u8, c: u8, d: u8) -> u64
+    ensures { λ r. ⌜ r ≡ biasedInteger (signed32 (word a b c d)) ⌝ }
+{
+    let high = (a as u64) * 16777216 + (b as u64) * 65536;
+    let bits = high + (c as u64) * 256 + (d as u64);
+    if bits < 2147483648 {
+        return bits + 2147483648;
+    }
+    bits - 2147483648
+}
+
+// Four bytes of a sheet, a signed big-endian number of 1024ths.
+pub fn grid_word(a: u8, b: u8, c: u8, d: u8) -> Fit
+    ensures { λ r. ⌜ r ≡ withinSigned (signed32 (word a b c d)) ⌝ }
+{
+    let n = biased_word(a, b, c, d);
+    if n < 1073741824 {
+        return Fit::Out;
+    }
+    let count = n - 1073741824;
+    if 2147483648 < count {
+        return Fit::Out;
+    }
+    Fit::At(count as u32)
+}
+
+// What a sensor can say.
+pub enum Reading {
+    Integer(i32),
+    Float(f64),
+    Boolean(u8),
+    // its place in the sensor's list of options
+    Option(u8),
+    Timestamp(u64),
+    Failure,
+    Unreachable,
+    Inactive,
+}
+
+// A kind, 0 unknown, 1 valid, 2 failure, 3 unreachable, 4 inactive, and a stored number.
+pub struct Sample {
+    pub kind: u8,
+    pub number: u64,
+}
+
+pub enum Sampled {
+    As(Sample),
+    Unfit,
+}
+
+fn valid_sample(number: u64) -> Sampled
+    ensures { λ r. ⌜ r ≡ valid number ⌝ }
+{
+    Sampled::As(Sample {
+        kind: 1,
+        number: number,
+    })
+}
+
+// A number that must be below a limit.
+fn sample_below(limit: u64, n: u64) -> Sampled
+    ensures { λ r. ⌜ r ≡ below limit n ⌝ }
+{
+    if n < limit {
+        return valid_sample(n);
+    }
+    Sampled::Unfit
+}
+
+fn float_sample(x: f64) -> Sampled
+    ensures { λ r. ⌜ r ≡ ofFit (exact1024 x) ⌝ }
+{
+    let Fit::At(n) = exact_1024ths(x) else {
+        return Sampled::Unfit;
+    };
+    valid_sample(n as u64)
+}
+
+// The stored number of a type's zero.
+pub fn zero_of(kind: u8) -> u64
+    ensures { λ r. ⌜ r ≡ zeroOf kind ⌝ }
+{
+    match kind {
+        1 => 2147483648,
+        2 => 1073741824,
+        _ => 0,
+    }
+}
+
+// A sample that is not valid carries the type's zero.
+pub fn invalid_sample(kind: u8, code: u8) -> Sample
+    ensures { λ r. ⌜ r ≡ invalid kind code ⌝ }
+{
+    Sample {
+        kind: code,
+        number: zero_of(kind),
+    }
+}
+
+// A sample of another type is unfit.
+fn only_for(kind: u8, wanted: u8, sampled: Sampled) -> Sampled
+    ensures { λ r. ⌜ r ≡ onlyFor kind wanted sampled ⌝ }
+{
+    if kind == wanted {
+        return sampled;
+    }
+    Sampled::Unfit
+}
+
+// A reading at a sensor of this type with so many options.
+pub fn sample_of(kind: u8, options: u8, reading: Reading) -> Sampled
+    ensures { λ r. ⌜ r ≡ sampleOf kind options reading ⌝ }
+{
+    match reading {
+        Reading::Integer(x) => only_for(kind, 1, valid_sample(biased_integer(x))),
+        Reading::Float(x) => only_for(kind, 2, float_sample(x)),
+        Reading::Boolean(b) => only_for(kind, 3, sample_below(2, b as u64)),
+        Reading::Option(i) => only_for(kind, 4, sample_below(options as u64, i as u64)),
+        Reading::Timestamp(m) => only_for(kind, 5, sample_below(10000000000000, m)),
+        Reading::Failure => Sampled::As(invalid_sample(kind, 2)),
+        Reading::Unreachable => Sampled::As(invalid_sample(kind, 3)),
+        Reading::Inactive => Sampled::As(invalid_sample(kind, 4)),
+    }
+}
+
+// How many limits a sensor has, 0, 2 or 4, and the stored numbers of the limits.
+pub struct Limits {
+    pub count: u8,
+    pub nominal_min: u64,
+    pub nominal_max: u64,
+    pub warn_min: u64,
+    pub warn_max: u64,
+}
+
+// The status of a valid number.
+fn range_status(l: Limits, n: u64) -> u8
+    ensures { λ r. ⌜ r ≡ rangeStatus l n ⌝ }
+{
+    if (l.count == 0) | ((l.nominal_min <= n) & (n <= l.nominal_max)) {
+        return 1;
+    }
+    if (l.count == 2) | ((l.warn_min <= n) & (n <= l.warn_max)) {
+        return 2;
+    }
+    3
+}
+
+// The status of a sample: 0 unknown, 1 nominal, 2 warn, 3 error, 4 failure, 5 unreachable, 6 inactive.
+pub fn status_of(l: Limits, s: Sample) -> u8
+    ensures { λ r. ⌜ r ≡ statusOf l s ⌝ }
+{
+    let kind = s.kind;
+    match kind {
+        0 => 0,
+        1 => range_status(l, s.number),
+        2 => 4,
+        3 => 5,
+        _ => 6,
+    }
+}
+
+// The word of a status as an argument.
+pub fn put_arg_status(out: &mut [u8], at: usize, status: u8) -> usize
+    ensures { λ r. ⌜ Wrote (output (now (out .entry)) at) (arg (statusText status)) (output (now (out .exit)) r) ⌝ }
+{
+    match status {
+        0 => message::put_arg(out, at, b"unknown"),
+        1 => message::put_arg(out, at, b"nominal"),
+        2 => message::put_arg(out, at, b"warn"),
+        3 => message::put_arg(out, at, b"error"),
+        4 => message::put_arg(out, at, b"failure"),
+        5 => message::put_arg(out, at, b"unreachable"),
+        _ => message::put_arg(out, at, b"inactive"),
+    }
+}
+
+// The text of the stored number `n` of a type, without escapes. A discrete value is the option that it names, `len` bytes of `option`.
+pub fn put_value(out: &mut [u8], at: usize, kind: u8, option: &[u8], len: usize, n: u64) -> usize
+    ensures { λ r. ⌜ Wrote (output (now (out .entry)) at) (valueText kind (take len (now (option .entry))) n) (output (now (out .exit)) r) ⌝ }
+{
+    match kind {
+        1 => output::put_integer(out, at, n),
+        2 => output::put_float(out, at, n),
+        3 => output::put_decimal(out, at, n),
+        4 => output::put_prefix(out, at, option, len),
+        _ => output::put_time(out, at, n),
+    }
+}
+
+// The same as an argument.
+pub fn put_arg_value(
+    out: &mut [u8],
+    at: usize,
+    kind: u8,
+    option: &[u8],
+    len: usize,
+    n: u64,
+) -> usize
+    ensures { λ r. ⌜ Wrote (output (now (out .entry)) at) (arg (valueText kind (take len (now (option .entry))) n)) (output (now (out .exit)) r) ⌝ }
+{
+    match kind {
+        1 => message::put_arg_integer(out, at, n),
+        2 => message::put_arg_float(out, at, n),
+        3 => message::put_arg_decimal(out, at, n),
+        4 => message::put_arg_prefix(out, at, option, len),
+        _ => message::put_arg_time(out, at, n),
+    }
+}
+
+// A parameter of a strategy: its number, or that the text is none.
+pub enum Parameter {
+    Is(u64),
+    Bad,
+}
+
+// How many digits t starts with.
+fn digits_len(t: &[u8]) -> usize
+    ensures { λ r. ⌜ r ≡ length (whole (now (t .entry))) ⌝ }
+{
+    let mut i = 0;
+    while i < t.len() {
+        if !output::is_digit(t[i]) {
+            return i;
+        }
+        i += 1;
+    }
+    i
+}
+
+// The number of a digit, 0 for a byte below the digits.
+fn digit_of(b: u8) -> u64
+    ensures { λ r. ⌜ r ≡ b - 48 ⌝ }
+{
+    if b < b'0' {
+        return 0;
+    }
+    (b - b'0') as u64
+}
+
+// n and one digit more, 10^10 at most.
+fn with_digit(n: u64, b: u8) -> u64
+    ensures { λ r. ⌜ r ≡ min (n * 10 + (b - 48)) 10000000000 ⌝ }
+{
+    if 1000000000 < n {
+        return 10000000000;
+    }
+    let more = n * 10 + digit_of(b);
+    if 10000000000 < more {
+        return 10000000000;
+    }
+    more
+}
+
+// The number that digits make, 10^10 at most.
+fn digits_value(t: &[u8]) -> u64
+    ensures { λ r. ⌜ r ≡ min (valueFrom 0 (now (t .entry))) 10000000000 ⌝ }
+{
+    let mut n: u64 = 0;
+    let mut i = 0;
+    while i < t.len() {
+        n = with_digit(n, t[i]);
+        i += 1;
+    }
+    n
+}
+
+// n · 10^places.
+fn scaled(n: u64, places: usize) -> u64
+    requires { ⌜ (n ≤ 10000000000) × (places ≤ 6) ⌝ }
+    ensures { λ r. ⌜ r ≡ n * 10 ^ places ⌝ }
+{
+    let mut m = n;
+    let mut i = 0;
+    while i < places {
+        m *= 10;
+        i += 1;
+    }
+    m
+}
+
+// Digits before the point, without leading zeros.
+fn whole_ok(w: &[u8]) -> bool
+    ensures { λ r. ⌜ r ≡ wholeOk (now (w .entry)) ⌝ }
+{
+    if w.len() == 0 {
+        return false;
+    }
+    (w[0] != b'0') | (w.len() == 1)
+}
+
+fn behind_point(s: &[u8]) -> &[u8]
+    ensures { λ r. ⌜ now r ≡ behindPoint (now (s .entry)) ⌝ }
+{
+    if s.len() == 0 {
+        return s;
+    }
+    &s[1..]
+}
+
+// Nothing, or a point and one or more digits.
+fn fraction_ok(s: &[u8]) -> bool
+    ensures { λ r. ⌜ r ≡ fractionOk (now (s .entry)) ⌝ }
+{
+    if s.len() == 0 {
+        return true;
+    }
+    let rest = behind_point(s);
+    (s[0] == b'.') & ((1 <= rest.len()) & (digits_len(rest) == rest.len()))
+}
+
+// A plain decimal with at most `places` fraction digits, counted in units of 10^-places, from `least` to `most`.
+fn read_decimal(t: &[u8], places: usize, least: u64, most: u64) -> Parameter
+    requires { ⌜ (places ≤ 6) × (most < 10000000000 * 10 ^ places) ⌝ }
+    ensures { λ r. ⌜ r ≡ cond (decimalOk places least most (now (t .entry))) (Parameter.Is (units places (now (t .entry)))) Parameter.Bad ⌝ }
+{
+    let n = digits_len(t);
+    let whole = &t[..n];
+    let behind = &t[n..];
+    let plain = whole_ok(whole) & fraction_ok(behind);
+    if !plain {
+        return Parameter::Bad;
+    }
+    let fraction = behind_point(behind);
+    if places < fraction.len() {
+        return Parameter::Bad;
+    }
+    let high = scaled(digits_value(whole), places);
+    let number = high + scaled(digits_value(fraction), places - fraction.len());
+    if (number < least) | (most < number) {
+        return Parameter::Bad;
+    }
+    Parameter::Is(number)
+}
+
+// A difference of integers, in millionths.
+pub fn read_integer_difference(t: &[u8]) -> Parameter
+    ensures { λ r. ⌜ r ≡ integerDifferenceOf (now (t .entry)) ⌝ }
+{
+    let Parameter::Is(n) = read_decimal(t, 0, 0, 4294967295) else {
+        return Parameter::Bad;
+    };
+    Parameter::Is(n * 1000000)
+}
+
+// A difference of floats, in millionths.
+pub fn read_float_difference(t: &[u8]) -> Parameter
+    ensures { λ r. ⌜ r ≡ floatDifferenceOf (now (t .entry)) ⌝ }
+{
+    read_decimal(t, 6, 0, 2097152000000)
+}
+
+// A period, in milliseconds.
+pub fn read_period(t: &[u8]) -> Parameter
+    ensures { λ r. ⌜ r ≡ periodOf (now (t .entry)) ⌝ }
+{
+    read_decimal(t, 3, 1, 86400000)
+}
+
+// A shortest period, which may be 0, in milliseconds.
+pub fn read_shortest(t: &[u8]) -> Parameter
+    ensures { λ r. ⌜ r ≡ shortestOf (now (t .entry)) ⌝ }
+{
+    read_decimal(t, 3, 0, 86400000)
+}
