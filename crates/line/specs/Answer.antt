@@ -19,6 +19,7 @@ use Rattle.line.specs.Line.{Parse, malformed, message, kindByte, nameOf,
 abbrev pub header : Message → Header
 header m = record { kind = m .kind; name = length (m .name); id = m .id; count = length (m .args) }
 
+-- what the code answers for a line
 abbrev pub answer : Parse → Parsed
 answer malformed = Malformed
 answer (message m) = Told (header m)
@@ -30,6 +31,7 @@ numberOf (Told h) = 0
 
 -- the same answer from the parts of a line, as the code finds them
 
+-- by the identifier
 abbrev pub withIdRead : ℕ → ℕ → ℕ → Identifier → Parsed
 withIdRead k n count Bad = Malformed
 withIdRead k n count (Is i) = Told (record { kind = k; name = n; id = i; count = count })
@@ -38,6 +40,7 @@ withIdRead k n count (Is i) = Told (record { kind = k; name = n; id = i; count =
 abbrev pub namedRead : ℕ → List ℕ → ℕ → Parsed
 namedRead k t count = cond (nameOk (nameOf t)) (withIdRead k (length (nameOf t)) count (idOf (afterName t))) Malformed
 
+-- by the first word
 abbrev pub headRead : List ℕ → ℕ → Parsed
 headRead [] count = Malformed
 headRead (k ∷ t) count = cond (kindByte k) (namedRead k t count) Malformed

@@ -11,6 +11,7 @@ use Rattle.line.specs.Line.{malformed, message, parse}
 abbrev request : ℕ → List (List ℕ) → Message
 request id args = record { kind = code "?"; name = text "a"; id = id; args = args }
 
+-- "*`[2147483647]` read, *`[2147483648]` 12. *`a\@b` is `ab`, *empty writes `\@`"
 pub record LineEdges : Type 0 where
   pub largest-id : parse (text "?a[2147483647]") ≡ message (request 2147483647 [])
   pub larger-id : parse (text "?a[2147483648]") ≡ malformed

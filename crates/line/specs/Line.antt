@@ -24,6 +24,7 @@ pub data Parse : Type 0 where
 unfoldable pub blank : ℕ → Bool
 blank b = eqb b (code " ") || eqb b (code "\t")
 
+-- a letter of ASCII
 unfoldable pub letter : ℕ → Bool
 letter b = (leb (code "A") b && leb b (code "Z")) || (leb (code "a") b && leb b (code "z"))
 
@@ -40,9 +41,11 @@ abbrev pub byLetter : List Escape → ℕ → Meaning
 byLetter [] c = cond (eqb c (code "@")) Nothing Unknown
 byLetter (e ∷ es) c = cond (eqb c (e .letter)) (Byte (e .byte)) (byLetter es c)
 
+-- what a backslash and c stand for
 unfoldable pub escapeOf : ℕ → Meaning
 escapeOf c = byLetter escapes c
 
+-- a byte that the table does not have
 abbrev pub noneOf : List Escape → ℕ → Bool
 noneOf [] b = true
 noneOf (e ∷ es) b = not (eqb b (e .byte)) && noneOf es b
@@ -53,6 +56,7 @@ plain b = noneOf escapes b
 
 -- Words: "arguments, each after one or more spaces or tabs. Trailing spaces and tabs are allowed." A line is cut at its spaces and tabs.
 
+-- a byte of a word
 abbrev pub wordByte : ℕ → Bool
 wordByte b = not (blank b)
 
@@ -73,11 +77,13 @@ abbrev mutual
 
 -- Arguments: "one or more plain bytes or escapes".
 
+-- an escape that document 01 has
 abbrev pub known : Meaning → Bool
 known Unknown = false
 known Nothing = true
 known (Byte b) = true
 
+-- the bytes that an escape stands for
 abbrev pub meant : Meaning → List ℕ
 meant Unknown = []
 meant Nothing = []
@@ -89,6 +95,7 @@ abbrev mutual
   valid [] = true
   valid (b ∷ s) = cond (eqb b (code "\\")) (validEscape s) (plain b && valid s)
 
+  -- a word behind a backslash
   pub validEscape : List ℕ → Bool
   validEscape [] = false
   validEscape (c ∷ s) = known (escapeOf c) && valid s
@@ -99,23 +106,27 @@ abbrev mutual
   unescape [] = []
   unescape (b ∷ s) = cond (eqb b (code "\\")) (unescapeNext s) (b ∷ unescape s)
 
+  -- the text of a word behind a backslash
   pub unescapeNext : List ℕ → List ℕ
   unescapeNext [] = []
   unescapeNext (c ∷ s) = meant (escapeOf c) ++ unescape s
 
+-- each word is plain bytes and escapes
 abbrev pub allValid : List (List ℕ) → Bool
 allValid [] = true
 allValid (w ∷ ws) = valid w && allValid ws
 
 -- The head: kind, name and id.
 
--- the name that a list starts with, and what is behind it
+-- the name that a list starts with
 abbrev pub nameOf : List ℕ → List ℕ
 nameOf t = run nameByte t
 
+-- what is behind that name
 abbrev pub afterName : List ℕ → List ℕ
 afterName t = behindRun nameByte t
 
+-- "a letter, then .."
 abbrev pub startsWithLetter : List ℕ → Bool
 startsWithLetter [] = false
 startsWithLetter (b ∷ s) = letter b
@@ -139,6 +150,7 @@ idOf (b ∷ s) = cond (eqb b (code "[")) (idFrom 0 s) Bad
 
 -- A line.
 
+-- a message where the identifier is one
 abbrev pub withId : ℕ → List ℕ → Identifier → List (List ℕ) → Parse
 withId k n Bad ws = malformed
 withId k n (Is i) ws = message (record { kind = k; name = n; id = i; args = map unescape ws })
@@ -147,6 +159,7 @@ withId k n (Is i) ws = message (record { kind = k; name = n; id = i; args = map 
 abbrev pub readNamed : ℕ → List ℕ → List (List ℕ) → Parse
 readNamed k t ws = cond (nameOk (nameOf t)) (withId k (nameOf t) (idOf (afterName t)) ws) malformed
 
+-- the first word is a kind byte, a name and perhaps an identifier
 abbrev pub readHead : List ℕ → List (List ℕ) → Parse
 readHead [] ws = malformed
 readHead (k ∷ t) ws = cond (kindByte k) (readNamed k t ws) malformed

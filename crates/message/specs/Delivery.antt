@@ -12,6 +12,7 @@ pub record Delivery : Type 0 where
   pub client : ℕ
   pub message : Message
 
+-- a delivery by its parts
 abbrev pub to : ℕ → Message → Delivery
 to c m = record { client = c; message = m }
 
@@ -20,6 +21,7 @@ pub record Packet : Type 0 where
   pub client : ℕ
   pub bytes : List ℕ
 
+-- the line of a delivery
 abbrev pub packet : Delivery → Packet
 packet d = record { client = d .client; bytes = line (d .message) }
 
@@ -27,6 +29,7 @@ packet d = record { client = d .client; bytes = line (d .message) }
 abbrev pub header : ℕ → ℕ → List ℕ
 header client n = client ∷ (n / 256 % 256) ∷ (n % 256) ∷ []
 
+-- lines one after another, each behind its client and its length
 abbrev pub packed : List Packet → List ℕ
 packed [] = []
 packed (p ∷ ps) = (header (p .client) (length (p .bytes)) ++ p .bytes) ++ packed ps

@@ -14,6 +14,7 @@ pub record Message : Type 0 where
   pub id : ℕ
   pub args : List (List ℕ)
 
+-- a message by its parts
 abbrev pub message : ℕ → List ℕ → ℕ → List (List ℕ) → Message
 message kind name id args = record { kind = kind; name = name; id = id; args = args }
 
@@ -22,6 +23,7 @@ pub record Escape : Type 0 where
   pub letter : ℕ
   pub byte : ℕ
 
+-- a row of the table
 abbrev pub for : ℕ → ℕ → Escape
 for letter byte = record { letter = letter; byte = byte }
 
@@ -40,9 +42,11 @@ abbrev pub escapeIn : List Escape → ℕ → List ℕ
 escapeIn [] b = b ∷ []
 escapeIn (e ∷ es) b = cond (eqb b (e .byte)) (code "\\" ∷ e .letter ∷ []) (escapeIn es b)
 
+-- the text that stands for a byte of an argument
 unfoldable pub escapeByte : ℕ → List ℕ
 escapeByte b = escapeIn escapes b
 
+-- and for each byte of a text
 abbrev pub escapeAll : List ℕ → List ℕ
 escapeAll [] = []
 escapeAll (b ∷ bs) = escapeByte b ++ escapeAll bs

@@ -4,10 +4,12 @@ use mathlib.Core.List.{List, [], _∷_, _++_}
 use Prim.Native.Nat.{ℕ, _+_, min}
 use lib.ListN.{length, drop, set}
 
+-- the bytes of an output, and the place of the next byte
 pub record Output : Type 0 where
   pub bytes : List ℕ
   pub at : ℕ
 
+-- an output by its parts
 abbrev pub output : List ℕ → ℕ → Output
 output xs at = record { bytes = xs; at = at }
 

@@ -19,10 +19,11 @@ valueFrom a (b ∷ bs) = valueFrom (a * 10 + (b - code "0")) bs
 abbrev pub other : ℕ → ℕ → Bool
 other x b = not (eqb b x)
 
--- the bytes before the first x, and those behind it
+-- the bytes before the first x
 abbrev pub upTo : ℕ → List ℕ → List ℕ
 upTo x t = run (other x) t
 
+-- the bytes behind the first x
 abbrev pub past : ℕ → List ℕ → List ℕ
 past x t = drop 1 (behindRun (other x) t)
 
@@ -40,40 +41,51 @@ fromBias bias value (b ∷ bs) = cond (eqb b (code "-")) (bias - value bs) (bias
 abbrev pub accepted : (ℕ → List ℕ) → (ℕ → Bool) → List ℕ → ℕ → Option ℕ
 accepted write inRange t x = cond (inRange x && same (write x) t) (some x) none
 
--- the ranges of document 01: 64 bits; 0 to 9,999,999,999,999 ms; signed 32 bits; ±1,048,576; 0 to 2,097,152; 0 to 4,294,967,295, whole
+-- 64 bits
 abbrev pub inDecimal : ℕ → Bool
 inDecimal n = ltb n (2 ^ 64)
 
+-- "0 to 9,999,999,999,999" milliseconds
 abbrev pub inTime : ℕ → Bool
 inTime ms = leb ms 9999999999999
 
+-- "signed 32-bit"
 abbrev pub inInteger : ℕ → Bool
 inInteger v = ltb v (2 ^ 32)
 
+-- "within ±1,048,576", in 1024ths
 abbrev pub inFloat : ℕ → Bool
 inFloat v = leb v (2 ^ 31)
 
+-- "float to 2,097,152", in millionths
 abbrev pub inDifference : ℕ → Bool
 inDifference d = leb d 2097152000000
 
+-- "integer .. to 4,294,967,295", in millionths
 abbrev pub inWholeDifference : ℕ → Bool
 inWholeDifference d = leb d 4294967295000000 && eqb (d % 1000000) 0
 
+-- a decimal
 unfoldable pub readDecimal : List ℕ → Option ℕ
 readDecimal t = accepted decimal inDecimal t (valueFrom 0 t)
 
+-- a time
 unfoldable pub readTime : List ℕ → Option ℕ
 readTime t = accepted time inTime t (parts 1000 t)
 
+-- an integer
 unfoldable pub readInteger : List ℕ → Option ℕ
 readInteger t = accepted integer inInteger t (fromBias (2 ^ 31) (valueFrom 0) t)
 
+-- a float
 unfoldable pub readFloat : List ℕ → Option ℕ
 readFloat t = accepted float inFloat t (fromBias (2 ^ 30) (parts 1024) t)
 
+-- a difference written like a float
 unfoldable pub readDifference : List ℕ → Option ℕ
 readDifference t = accepted difference inDifference t (parts 1000000 t)
 
+-- a difference of integers
 unfoldable pub readWholeDifference : List ℕ → Option ℕ
 readWholeDifference t = accepted wholeDifference inWholeDifference t (valueFrom 0 t * 1000000)
 

@@ -18,6 +18,7 @@ biased true n = 2 ^ 30 - n
 abbrev pub within : Bool → ℕ → Fit
 within s n = cond (leb n (2 ^ 30)) (At (biased s n)) Out
 
+-- so many 1024ths, signed
 abbrev pub withinSigned : ℤ → Fit
 withinSigned (pos n) = within false n
 withinSigned (negsuc n) = within true (suc n)

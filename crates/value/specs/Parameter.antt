@@ -10,10 +10,11 @@ use Rattle.output.specs.Read.{valueFrom}
 use Rattle.value.specs.declared.Parameter.{Parameter}
 use Rattle.value.specs.declared.Parameter.the-variants.{Is, Bad}
 
--- the digits that a text starts with, and what stands behind them
+-- the digits that a text starts with
 abbrev pub whole : List ℕ → List ℕ
 whole t = run isDigit t
 
+-- what stands behind those digits
 abbrev pub behindWhole : List ℕ → List ℕ
 behindWhole t = behindRun isDigit t
 
@@ -36,6 +37,7 @@ abbrev pub behindPoint : List ℕ → List ℕ
 behindPoint [] = []
 behindPoint (b ∷ s) = s
 
+-- the fraction digits of a plain decimal
 abbrev pub fraction : List ℕ → List ℕ
 fraction t = behindPoint (behindWhole t)
 

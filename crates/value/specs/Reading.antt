@@ -13,9 +13,11 @@ use Rattle.value.specs.declared.Sampled.the-variants.{As, Unfit}
 use Rattle.value.specs.Double.{exact1024}
 use Rattle.value.specs.Integer.{biasedInteger}
 
+-- a sample by its parts
 abbrev pub sample : ℕ → ℕ → Sample
 sample kind number = record { kind = kind; number = number }
 
+-- a valid sample
 abbrev pub valid : ℕ → Sampled
 valid n = As (sample 1 n)
 
@@ -23,9 +25,11 @@ valid n = As (sample 1 n)
 abbrev pub onlyFor : ℕ → ℕ → Sampled → Sampled
 onlyFor t k a = cond (eqb t k) a Unfit
 
+-- a number that must be below a limit
 abbrev pub below : ℕ → ℕ → Sampled
 below limit n = cond (ltb n limit) (valid n) Unfit
 
+-- a double that fits, or is unfit
 abbrev pub ofFit : Fit → Sampled
 ofFit (At n) = valid n
 ofFit Out = Unfit
