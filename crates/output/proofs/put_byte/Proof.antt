@@ -1,3 +1,4 @@
+-- Where there is room the byte is stored; at the end nothing is.
 use borrow.Author.Needs.{needs}
 use native.Mathlib.Omega.{arith}
 use mathlib.Core.Path.{_≡_, ap}
