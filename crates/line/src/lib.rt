@@ -262,7 +262,7 @@ fn id_from(t: &[u8]) -> Identifier
             }
             return Identifier::Is(n);
         }
-        n = n * 10 + wide(b - 48);
+        n = n * 10 + wide(b - b'0');
         if n < 1 {
             return Identifier::Bad;
         }

@@ -58,10 +58,6 @@ pub every-all : (is : ℕ → Bool) (s : List ℕ) → Every (λ b. is b ≡ tru
 every-all is [] h = refl
 every-all is (b ∷ s) h = rw (h .0, every-all is s (h .1))
 
-pub every-in : (P Q : ℕ → Type 0) → ((b : ℕ) → P b → Q b) → (s : List ℕ) → Every P s → Every Q s
-every-in P Q f [] h = tt
-every-in P Q f (b ∷ s) h = (f b (h .0), every-in P Q f s (h .1))
-
 -- What holds of the digits holds of the texts that are made of them; so with the point and the minus.
 module _ (P : ℕ → Type 0) (digits : (n : ℕ) → P (digit n)) where
   every-digits : (k n : ℕ) → Every P (digitsIn k n)

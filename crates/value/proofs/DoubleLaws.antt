@@ -9,6 +9,8 @@ use lib.IntN.{ℤ}
 use lib.Ieee.{fin, up, down, binary64, ofBits}
 use lib.Ieee.Fits.{down-pos}
 use borrow.Author.Tests.{leb-true, eqb-true, le-leb}
+use mathlib.Core.List.{[], _∷_, map}
+use Rattle.value.specs.declared.Fit.{Fit}
 use Rattle.value.specs.declared.Fit.the-variants.{At, Out}
 use Rattle.value.specs.Double.{biased, within, wholeOf, ofDouble, exact1024, Stands}
 
@@ -73,62 +75,16 @@ stands-exact s m e n h l = stands-whole s (m * up e * 1024) (down e) n (down-pos
 
 -- ---- examples, by their bit patterns
 
--- -0.5
-pub minus-half : exact1024 (ofBits binary64 0xbfe0_0000_0000_0000) ≡ At (2 ^ 30 - 512)
-unfolding ofBits ofDouble
-minus-half = refl
+abbrev ofPattern : ℕ → Fit
+ofPattern b = exact1024 (ofBits binary64 b)
 
--- 0.5
-pub half : exact1024 (ofBits binary64 0x3fe0_0000_0000_0000) ≡ At (2 ^ 30 + 512)
+-- -1,048,576, -0.5, -0.0, 0.0, 0.0009765625, 0.5, 1,048,576
+pub exact : map ofPattern (0xc130_0000_0000_0000 ∷ 0xbfe0_0000_0000_0000 ∷ 0x8000_0000_0000_0000 ∷ 0 ∷ 0x3f50_0000_0000_0000 ∷ 0x3fe0_0000_0000_0000 ∷ 0x4130_0000_0000_0000 ∷ [])
+    ≡ At 0 ∷ At (2 ^ 30 - 512) ∷ At (2 ^ 30) ∷ At (2 ^ 30) ∷ At (2 ^ 30 + 1) ∷ At (2 ^ 30 + 512) ∷ At (2 ^ 31) ∷ []
 unfolding ofBits ofDouble
-half = refl
+exact = refl
 
--- 0.0009765625
-pub one-1024th : exact1024 (ofBits binary64 0x3f50_0000_0000_0000) ≡ At (2 ^ 30 + 1)
+-- 1,048,576 + 1/1024, 1/2048, 2^-1074, an infinity, a NaN
+pub unfit : map ofPattern (0x4130_0000_0040_0000 ∷ 0x3f40_0000_0000_0000 ∷ 1 ∷ 0x7ff0_0000_0000_0000 ∷ 0x7ff8_0000_0000_0000 ∷ []) ≡ Out ∷ Out ∷ Out ∷ Out ∷ Out ∷ []
 unfolding ofBits ofDouble
-one-1024th = refl
-
--- 0.0
-pub zero-is : exact1024 (ofBits binary64 0) ≡ At (2 ^ 30)
-unfolding ofBits ofDouble
-zero-is = refl
-
--- -0.0
-pub minus-zero : exact1024 (ofBits binary64 0x8000_0000_0000_0000) ≡ At (2 ^ 30)
-unfolding ofBits ofDouble
-minus-zero = refl
-
--- 1,048,576
-pub largest : exact1024 (ofBits binary64 0x4130_0000_0000_0000) ≡ At (2 ^ 31)
-unfolding ofBits ofDouble
-largest = refl
-
--- -1,048,576
-pub lowest : exact1024 (ofBits binary64 0xc130_0000_0000_0000) ≡ At 0
-unfolding ofBits ofDouble
-lowest = refl
-
--- 1,048,576 + 1/1024
-pub over : exact1024 (ofBits binary64 0x4130_0000_0040_0000) ≡ Out
-unfolding ofBits ofDouble
-over = refl
-
--- 1/2048
-pub one-2048th : exact1024 (ofBits binary64 0x3f40_0000_0000_0000) ≡ Out
-unfolding ofBits ofDouble
-one-2048th = refl
-
--- 2^-1074
-pub tiny : exact1024 (ofBits binary64 1) ≡ Out
-unfolding ofBits ofDouble
-tiny = refl
-
--- a NaN
-pub not-a-number : exact1024 (ofBits binary64 0x7ff8_0000_0000_0000) ≡ Out
-unfolding ofBits ofDouble
-not-a-number = refl
-
--- an infinity
-pub infinity : exact1024 (ofBits binary64 0x7ff0_0000_0000_0000) ≡ Out
-unfolding ofBits ofDouble
-infinity = refl
+unfit = refl

@@ -7,4 +7,3 @@ pub mod DigitLaws
 pub mod DecimalLaws
 pub mod ParameterLaws
 pub mod ParameterExamples
-pub mod StatusLaws

@@ -4,7 +4,7 @@ use Prim.Native.Nat.{ℕ}
 use mathlib.Core.Path.{ap, sym}
 use Rattle.message.specs.Message.{arg}
 use Rattle.value.specs.Status.{statusText}
-use Rattle.value.proofs.StatusLaws.{inactive-word}
+use Rattle.value.proofs.ValueLaws.{inactive-word}
 use Rattle.output.proofs.OutputLaws.{same, said}
 use Rattle.value.proofs.put_arg_status.Statement.{statement}
 use Rattle.value.proofs.put_arg_status.Tie as tie
