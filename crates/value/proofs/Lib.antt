@@ -3,6 +3,7 @@ pub mod IntegerLaws
 pub mod SignedLaws
 pub mod DoubleLaws
 pub mod ValueLaws
+pub mod SampleLaws
 pub mod DigitLaws
 pub mod DecimalLaws
 pub mod ParameterLaws

@@ -3,6 +3,7 @@ use mathlib.Core.Path.{_≡_, sym, ap, _∙_, subst}
 use Prim.Native.Nat.{ℕ, suc, _+_, _-_, _^_, _<_, _≤_}
 use native.Mathlib.Omega.{arith}
 use borrow.Author.Tests.{le-ltb, lt-ltb, le-leb, lt-leb}
+use mathlib.Core.Bool.{true}
 use lib.Dec.{T}
 use lib.IntN.{ℤ, pos, negsuc, natAbs, _+ℤ_}
 use lib.Signed.{nonNeg}
@@ -11,11 +12,16 @@ use mir.Val.{Fits, SFits, toZ, ofZ}
 use mir.ValLaws.{toZ-ofZ}
 use Rattle.value.specs.declared.Fit.the-variants.{At, Out}
 use Rattle.value.specs.Double.{withinSigned}
-use Rattle.value.specs.Integer.{biasedInteger, signed32}
+use Rattle.value.specs.Integer.{biasedInteger, isSigned32, signed32}
 use Rattle.value.proofs.IntegerLaws.{biased-is}
 
 sum-is : (z : ℤ) → SFits w32 z → z +ℤ pos (2 ^ 31) ≡ pos (biasedInteger z)
 sum-is z h = sym (biased-is z (h .sfits))
+
+-- what an i32 holds is signed 32-bit
+pub fits-signed32 : (z : ℤ) → SFits w32 z → isSigned32 z ≡ true
+fits-signed32 (pos n) h = lt-ltb n (2 ^ 31) (omega arith)
+fits-signed32 (negsuc n) h = lt-ltb n (2 ^ 31) (omega arith)
 
 pub biased-lt : (z : ℤ) → SFits w32 z → biasedInteger z < 2 ^ 32
 biased-lt (pos n) h = omega arith

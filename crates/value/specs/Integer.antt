@@ -1,8 +1,13 @@
 -- "Integers are signed 32-bit": stored as 2^31 more than the number.
 use Prim.Native.Nat.{ℕ, suc, _+_, _-_, _*_, _^_}
-use mathlib.Core.Bool.{cond}
+use mathlib.Core.Bool.{Bool, cond}
 use lib.Dec.{ltb}
 use lib.IntN.{ℤ, pos, negsuc}
+
+-- "Integers are signed 32-bit"
+abbrev pub isSigned32 : ℤ → Bool
+isSigned32 (pos n) = ltb n (2 ^ 31)
+isSigned32 (negsuc n) = ltb n (2 ^ 31)
 
 -- `negsuc n` is -(n + 1)
 abbrev pub biasedInteger : ℤ → ℕ

@@ -5,7 +5,10 @@ use mir.ValLaws.{toZ-ofZ}
 use Rattle.value.specs.Integer.{biasedInteger}
 use borrow.Author.Needs.{needs}
 use mathlib.Core.Path.{sym, ap, _∙_}
+use mathlib.Core.Bool.{Bool, cond}
+use Rattle.value.specs.declared.Sampled.the-variants.{Unfit}
 use Rattle.value.specs.Reading.{valid, onlyFor, sampleOf}
+use Rattle.value.proofs.SignedLaws.{fits-signed32}
 use Rattle.value.proofs.sample_of.Statement.{statement}
 use Rattle.value.proofs.sample_of.Tie as tie
 
@@ -85,9 +88,11 @@ returns : tie.Need-returns
 unfolding sampleOf
 returns c =
     let s = c .before .before .before .before .before .before in
+    let z = c .before .before .before .before .reading .given .0 .0 in
     c .only-for .ensures
     ∙ ap (onlyFor (s .args .kind) 1) (c .before .valid-sample .ensures ∙ ap valid (c .before .before .biased-integer .ensures))
-    ∙ ap (λ (z : ℤ). onlyFor (s .args .kind) 1 (valid (biasedInteger z))) (toZ-ofZ w32 (c .before .before .before .before .reading .given .0 .0) (search needs))
+    ∙ ap (λ (k : ℤ). onlyFor (s .args .kind) 1 (valid (biasedInteger k))) (toZ-ofZ w32 z (search needs))
+    ∙ ap (λ (k : Bool). onlyFor (s .args .kind) 1 (cond k (valid (biasedInteger z)) Unfit)) (sym (fits-signed32 z (search needs)))
     ∙ sym (ap (sampleOf (s .args .kind) (s .args .options)) (c .before .before .before .before .reading .given .1))
 
 returns-2 : tie.Need-returns-2
