@@ -9,3 +9,4 @@ pub mod Carried
 pub mod ReadBack
 pub mod Edges
 pub mod FirstLine
+pub mod ParsedHead
