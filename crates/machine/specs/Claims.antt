@@ -1,0 +1,50 @@
+-- What is claimed of the machine beside demand 3.
+use Prim.Native.Nat.{ℕ, _≤_, _<_}
+use mathlib.Core.Path.{_≡_}
+use mathlib.Core.Bool.{true}
+use mathlib.Core.List.{List, [], _∷_}
+use lib.ListN.{length}
+use Rattle.message.specs.Message.{write}
+use Rattle.message.specs.Delivery.{Delivery}
+use Rattle.line.specs.Line.{message, parse, WellFormed}
+use Rattle.machine.specs.declared.State.{State}
+use Rattle.machine.specs.Places.{Each}
+use Rattle.machine.specs.State.{blank}
+use Rattle.machine.specs.Range.{inRange}
+use Rattle.machine.specs.Opening.{opened}
+use Rattle.machine.specs.Declined.{Connect, Call, addressFits}
+use Rattle.machine.specs.Machine.{step, written}
+use Rattle.machine.specs.Reader.{Impossible, news, viewBy, noView, standing}
+use Rattle.machine.specs.TwoDevices.{returned, connectedAtEnd, Device, sheetOf, archiveConnected, messages, final}
+
+-- every output of every call is at most 65,536 bytes, and every line at most 2,048 without its end (on a state out of range nothing is sent)
+abbrev pub Fits : Type 0
+Fits = (s : State) (call : Call)
+    → (length (written (step s call)) ≤ 65536) × Each (λ (d : Delivery). length (write (d .message)) ≤ 2048) (step s call .sent)
+
+-- every message that is sent is well-formed, so its line parses to itself
+abbrev pub SentReadsBack : Type 0
+SentReadsBack = (s : State) (call : Call)
+    → Each (λ (d : Delivery). WellFormed (d .message) × (parse (write (d .message)) ≡ message (d .message))) (step s call .sent)
+
+-- and tells nothing that no device of the sheet writes
+abbrev pub NeverImpossible : Type 0
+NeverImpossible = (s : State) (call : Call)
+    → Each (λ (d : Delivery). news (s .sheet) (d .message) ≡ Impossible → ⊥) (step s call .sent)
+
+-- what the reader makes of an archive's messages is what the state holds that the list ends with
+abbrev pub Viewed : Type 0
+Viewed = (bytes : List ℕ) (d : Device) → archiveConnected bytes d ≡ true → (j : ℕ) → j < sheetOf bytes .count
+    → viewBy (sheetOf bytes) j (messages bytes d) noView ≡ standing (sheetOf bytes) (final bytes d) (d .archive) j
+
+-- an opened state is in range, the blank one too; every call keeps a state in range; so number 1 is never given to a state that calls returned
+pub record KeptInRange : Type 0 where
+  pub blank-in-range : inRange blank ≡ true
+  pub opened-in-range : (bytes : List ℕ) → inRange (opened bytes .state) ≡ true
+  pub step-in-range : (s : State) → inRange s ≡ true → (call : Call) → inRange (step s call .next) ≡ true
+  pub never-one : (bytes : List ℕ) (h : List Call) (call : Call) → returned bytes h call .number ≡ 1 → ⊥
+
+-- the assumptions of demand 3 can be met: on every sheet that opens, a connect that fits leaves its client connected at the end
+abbrev pub Connectable : Type 0
+Connectable = (bytes : List ℕ) → opened bytes .number ≡ 0 → (c : ℕ) → c < 8 → (address : List ℕ) → addressFits address ≡ true → (lent : List ℕ) → 65536 ≤ length lent
+    → connectedAtEnd bytes c (record { action = Connect c address; lent = lent } ∷ []) ≡ true

@@ -1,0 +1,158 @@
+-- Document 01, "Why a call or line is declined": calls, and the number of the row that declines one, 0 for none.
+use Prim.Native.Nat.{ℕ, _+_}
+use mathlib.Core.Bool.{Bool, cond, not, _&&_, _||_}
+use mathlib.Core.List.{List, [], _∷_}
+use mathlib.Core.Option.{Option, none, some}
+use lib.Dec.{eqb, leb, ltb}
+use lib.ListN.{length}
+use Rattle.output.specs.Text.{all}
+use Rattle.output.specs.Read.{inTime}
+use Rattle.message.specs.Message.{Message}
+use Rattle.message.specs.Delivery.{Delivery, to}
+use Rattle.value.specs.declared.Reading.{Reading as Given}
+use Rattle.value.specs.Reading.{sampleOf}
+use Rattle.value.specs.Answer.{sampledNumber}
+use Rattle.machine.specs.declared.Sheet.{Sheet}
+use Rattle.machine.specs.declared.State.{State}
+use Rattle.machine.specs.declared.Request.{Request}
+use Rattle.machine.specs.declared.Request.the-variants.{ClientList, Halt, Help, LogLevel, Restart, SensorList, SensorSampling, SensorValue, VersionList, Watchdog}
+use Rattle.machine.specs.Places.{any, twice}
+use Rattle.machine.specs.Sheet.{sensorOf, notOnSheet, graphic, printable, nameByte}
+use Rattle.machine.specs.State.{connected}
+use Rattle.machine.specs.Range.{inRange}
+use Rattle.machine.specs.Requests.{Asked, Nothing, NotMessage, Reply, Unknown, Asks, asked, argument, askedPlaces, requestNamed, levelOf, listed, kindAsked, parameterCount, byDifference, isBad, parametersAsked, strategyAsked, shortestOverLongest}
+use Rattle.machine.specs.Messages.{refusalEntry, refusalReply}
+
+-- What is asked of the unit: the calls but opening, with their arguments.
+pub data Action : Type 0 where
+  Connect : ℕ → List ℕ → Action  -- client, address text
+  Disconnect : ℕ → Action  -- client
+  Tick : ℕ → Action  -- milliseconds
+  Reading : ℕ → Given → Action  -- "sensor by place in the sheet, from 0", reading
+  Log : ℕ → List ℕ → List ℕ → Action  -- level, logger, message
+  Line : ℕ → List ℕ → Action  -- client, its line without end
+
+-- a call: what is asked, and what the lent output holds
+pub record Call : Type 0 where
+  pub action : Action
+  pub lent : List ℕ
+
+-- Rows 5 to 11.
+
+-- "client above 7", 5; "connect: connected; else: not connected", 6
+unfoldable pub clientDeclined : Bool → ℕ → ℕ → ℕ
+clientDeclined refused c rest = cond (ltb 7 c) 5 (cond refused 6 rest)
+
+-- "address text (1–48 bytes 0x21–0x7E)"
+unfoldable pub addressFits : List ℕ → Bool
+addressFits t = leb 1 (length t) && (leb (length t) 48 && all graphic t)
+
+-- "tick below clock or above limit"
+unfoldable pub tickFits : State → ℕ → Bool
+tickFits s t = leb (s .clock) t && inTime t
+
+-- "outside 0x20–0x7E, 9, 10, 13"
+unfoldable pub entryByte : ℕ → Bool
+entryByte b = printable b || (eqb b 9 || (eqb b 10 || eqb b 13))
+
+-- "log level off/all, logger not 1–32 name bytes, message over 256 or outside 0x20–0x7E, 9, 10, 13"
+unfoldable pub entryFits : ℕ → List ℕ → List ℕ → Bool
+entryFits level logger said =
+    (leb 1 level && leb level 6)
+    && ((leb 1 (length logger) && (leb (length logger) 32 && all nameByte logger)) && (leb (length said) 256 && all entryByte said))
+
+-- Rows 14 to 23.
+
+-- the number of arguments that a request takes
+unfoldable pub countFits : Request → ℕ → Bool
+countFits ClientList n = eqb n 0
+countFits Halt n = eqb n 0
+countFits Help n = leb n 1
+countFits LogLevel n = leb n 1
+countFits Restart n = eqb n 0
+countFits SensorList n = leb n 1
+countFits SensorSampling n = leb 1 n
+countFits SensorValue n = leb n 1
+countFits VersionList n = eqb n 0
+countFits Watchdog n = eqb n 0
+
+-- some sensor that is told of is not on the sheet: "sensor name unknown", 16
+abbrev pub sensorsDeclined : Sheet → Message → ℕ
+sensorsDeclined sheet m = cond (any (notOnSheet sheet) (askedPlaces sheet m)) 16 0
+
+-- "help on unknown name", 23
+abbrev pub helpDeclined : Option Request → ℕ
+helpDeclined none = 23
+helpDeclined (some r) = 0
+
+-- a list with a strategy: "17, 15 (parameters), 18, 19, 20"
+unfoldable pub settingDeclined : Sheet → Message → ℕ
+settingDeclined sheet m =
+    cond (leb 7 (kindAsked m)) 17
+    (cond (not (eqb (length (m .args)) (2 + parameterCount (kindAsked m)))) 15
+    (cond (byDifference (kindAsked m) && any (λ j. leb 3 (sensorOf sheet j .kind)) (listed sheet m)) 18
+    (cond (any isBad (parametersAsked sheet m)) 19
+    (cond (shortestOverLongest (strategyAsked sheet m)) 20
+    0))))
+
+-- "this order for sampling: 15 (none), 16, 21, 15 (list without strategy), .." (the first of these is that of every request)
+unfoldable pub samplingDeclined : Sheet → Message → ℕ
+samplingDeclined sheet m =
+    cond (any (notOnSheet sheet) (listed sheet m)) 16
+    (cond (twice (listed sheet m)) 21
+    (cond (eqb (length (m .args)) 1) (cond (ltb 1 (length (listed sheet m))) 15 0)
+    (settingDeclined sheet m)))
+
+-- what a request's arguments are declined for
+unfoldable pub argumentsDeclined : Sheet → Request → Message → ℕ
+argumentsDeclined sheet ClientList m = 0
+argumentsDeclined sheet Halt m = 0
+argumentsDeclined sheet Help m = cond (eqb (length (m .args)) 0) 0 (helpDeclined (requestNamed (argument m 0)))
+argumentsDeclined sheet LogLevel m = cond (eqb (length (m .args)) 0) 0 (cond (leb 8 (levelOf (argument m 0))) 22 0)
+argumentsDeclined sheet Restart m = 0
+argumentsDeclined sheet SensorList m = sensorsDeclined sheet m
+argumentsDeclined sheet SensorSampling m = samplingDeclined sheet m
+argumentsDeclined sheet SensorValue m = sensorsDeclined sheet m
+argumentsDeclined sheet VersionList m = 0
+argumentsDeclined sheet Watchdog m = 0
+
+-- "line over 2,048 or no message", 12; "reply received", 13; "request unknown", 14; "argument count", 15
+unfoldable pub lineDeclined : Sheet → Asked → ℕ
+lineDeclined sheet Nothing = 0
+lineDeclined sheet NotMessage = 12
+lineDeclined sheet Reply = 13
+lineDeclined sheet (Unknown m) = 14
+lineDeclined sheet (Asks r m) = cond (not (countFits r (length (m .args)))) 15 (argumentsDeclined sheet r m)
+
+-- the rows from 5 on, "Lower number first"
+unfoldable pub actionDeclined : Sheet → State → Action → ℕ
+actionDeclined sheet s (Connect c address) = clientDeclined (connected s c) c (cond (addressFits address) 0 7)
+actionDeclined sheet s (Disconnect c) = clientDeclined (not (connected s c)) c 0
+actionDeclined sheet s (Tick t) = cond (tickFits s t) 0 8
+actionDeclined sheet s (Reading j r) = cond (notOnSheet sheet j) 9 (sampledNumber (sampleOf (sensorOf sheet j .kind) (sensorOf sheet j .«option_count») r))
+actionDeclined sheet s (Log level logger said) = cond (entryFits level logger said) 0 11
+actionDeclined sheet s (Line c line) = clientDeclined (not (connected s c)) c (lineDeclined sheet (asked line))
+
+-- "state field out of range", 1; "output under 65,536 bytes", 2; "device halted", 3
+unfoldable pub declined : Sheet → State → Call → ℕ
+declined sheet s call =
+    cond (not (inRange s)) 1 (cond (ltb (length (call .lent)) 65536) 2 (cond (s .halted) 3 (actionDeclined sheet s (call .action))))
+
+-- What a refusal sends: nothing below 12; "12 and 13 go to the sender despite the log level"; from 14 on a reply.
+
+-- by what the line asks
+unfoldable pub lineRefusal : ℕ → ℕ → ℕ → Asked → List Delivery
+lineRefusal clock c n Nothing = []
+lineRefusal clock c n NotMessage = to c (refusalEntry clock n) ∷ []
+lineRefusal clock c n Reply = to c (refusalEntry clock n) ∷ []
+lineRefusal clock c n (Unknown m) = to c (refusalReply m n) ∷ []
+lineRefusal clock c n (Asks r m) = to c (refusalReply m n) ∷ []
+
+-- by the call
+unfoldable pub refusal : State → ℕ → Action → List Delivery
+refusal s n (Connect c address) = []
+refusal s n (Disconnect c) = []
+refusal s n (Tick t) = []
+refusal s n (Reading j r) = []
+refusal s n (Log level logger said) = []
+refusal s n (Line c line) = cond (ltb n 12) [] (lineRefusal (s .clock) c n (asked line))

@@ -1,0 +1,14 @@
+pub mod Places
+pub mod Sheet
+pub mod State
+pub mod Range
+pub mod Opening
+pub mod Messages
+pub mod Report
+pub mod Requests
+pub mod Declined
+pub mod Machine
+pub mod Reader
+pub mod TwoDevices
+pub mod Claims
+pub mod Edges

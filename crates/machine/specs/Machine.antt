@@ -1,0 +1,94 @@
+-- Document 01, "Machine": what a call does, what it returns, and what its output holds then.
+use Prim.Native.Nat.{ℕ, zero, suc}
+use mathlib.Core.Bool.{cond}
+use mathlib.Core.List.{List, [], _∷_}
+use lib.Dec.{leb}
+use lib.ListN.{length}
+use Rattle.output.specs.Output.{laid}
+use Rattle.message.specs.Delivery.{Delivery, to, deliveries}
+use Rattle.value.specs.declared.Reading.{Reading as Given}
+use Rattle.value.specs.declared.Sample.{Sample}
+use Rattle.value.specs.declared.Sampled.{Sampled}
+use Rattle.value.specs.declared.Sampled.the-variants.{As, Unfit}
+use Rattle.value.specs.Reading.{sampleOf, fresh}
+use Rattle.machine.specs.declared.Sensor.{Sensor}
+use Rattle.machine.specs.declared.Sheet.{Sheet}
+use Rattle.machine.specs.declared.State.{State}
+use Rattle.machine.specs.declared.Answer.{Answer}
+use Rattle.machine.specs.declared.Cause.the-variants.{Tick as Ticked, Reading as Read}
+use Rattle.machine.specs.Sheet.{sensorOf}
+use Rattle.machine.specs.State.{withClock, withReading, withClient, clientAt, blankClient}
+use Rattle.machine.specs.Messages.{versionConnect, protocolArgs, deviceArgs, clientConnected, logEntry, toAll, toOthers}
+use Rattle.machine.specs.Report.{Work, visit}
+use Rattle.machine.specs.Requests.{Asked, Nothing, NotMessage, Reply, Unknown, Asks, asked, sendsOnly, answer}
+use Rattle.machine.specs.Declined.{Action, Connect, Disconnect, Tick, Reading, Log, Line, Call, declined, refusal}
+
+-- the sample that a fit reading becomes
+abbrev pub sampleIn : ℕ → Sampled → Sample
+sampleIn t (As x) = x
+sampleIn t Unfit = fresh t
+
+-- the sample that a sensor's reading becomes
+unfoldable pub sampleGiven : Sensor → Given → Sample
+sampleGiven n r = sampleIn (n .kind) (sampleOf (n .kind) (n .«option_count») r)
+
+-- "first the newcomer gets `#version-connect katcp-protocol 5.1-MIB`, then `katcp-device` ..; then the other clients get `#client-connected`"
+unfoldable pub connectSends : Sheet → State → ℕ → List ℕ → List Delivery
+connectSends sheet s c address =
+    to c (versionConnect protocolArgs) ∷ to c (versionConnect (deviceArgs sheet)) ∷ toOthers s c (clientConnected address)
+
+-- "sent .. to all if its level is at or above the set one": more severe levels have lower numbers
+unfoldable pub entries : State → ℕ → List ℕ → List ℕ → List Delivery
+entries s level logger said = cond (leb level (s .level)) (toAll s (logEntry level (s .clock) logger said)) []
+
+-- a line that is not declined
+unfoldable pub lineWork : Sheet → State → ℕ → Asked → Work
+lineWork sheet s c Nothing = sendsOnly s []
+lineWork sheet s c NotMessage = sendsOnly s []
+lineWork sheet s c Reply = sendsOnly s []
+lineWork sheet s c (Unknown m) = sendsOnly s []
+lineWork sheet s c (Asks r m) = answer sheet s c r m
+
+-- what a call that is not declined does
+unfoldable pub perform : Sheet → State → Action → Work
+perform sheet s (Connect c address) = record { sent = connectSends sheet s c address; next = withClient s c (clientAt address) }
+perform sheet s (Disconnect c) = record { sent = []; next = withClient s c blankClient }
+perform sheet s (Tick t) = visit sheet (withClock s t) Ticked
+perform sheet s (Reading j r) = visit sheet (withReading s j (sampleGiven (sensorOf sheet j) r)) (Read j)
+perform sheet s (Log level logger said) = sendsOnly s (entries s level logger said)
+perform sheet s (Line c line) = lineWork sheet s c (asked line)
+
+-- what a call comes to: its number, what it sends, the next state
+pub record Effect : Type 0 where
+  pub number : ℕ
+  pub sent : List Delivery
+  pub next : State
+
+-- carried out
+abbrev pub done : Work → Effect
+done w = record { number = 0; sent = w .sent; next = w .next }
+
+-- declined with a number: "left as it was: state"
+abbrev pub left : State → ℕ → Action → Effect
+left s n action = record { number = n; sent = refusal s n action; next = s }
+
+-- by the number that declines it
+unfoldable pub outcome : Sheet → State → Action → ℕ → Effect
+outcome sheet s action zero = done (perform sheet s action)
+outcome sheet s action (suc n) = left s (suc n) action
+
+-- a call
+abbrev pub step : State → Call → Effect
+step s call = outcome (s .sheet) s (call .action) (declined (s .sheet) s call)
+
+-- the bytes that it writes
+abbrev pub written : Effect → List ℕ
+written e = deliveries (e .sent)
+
+-- "every other call is lent an output and returns number, bytes written and next state"
+abbrev pub answerOf : Effect → Answer
+answerOf e = record { number = e .number; written = length (written e); state = e .next }
+
+-- the output as the call returns: "output past that count is untouched"
+abbrev pub outputOf : Effect → List ℕ → List ℕ
+outputOf e lent = laid (written e) lent

@@ -1,0 +1,131 @@
+//! The state of the unit, as document 01 has it. What the unit does with it is defined in specs/; the crates above carry it out.
+use value::Limits;
+use value::Sample;
+ghost use mathlib.Core.Path.{_≡_};
+ghost use Rattle.machine.specs.State.{startLevel, noSubscription};
+
+// An option of a discrete sensor: the first `len` bytes of `text`.
+pub struct Choice {
+    pub text: [u8; 16],
+    pub len: u8,
+}
+
+// A sensor as the sheet has it. A text is the first `_len` bytes of its array; the type is 1 integer, 2 float, 3 boolean, 4 discrete,
+// 5 timestamp; limits and options are those of the types that have them.
+pub struct Sensor {
+    pub name: [u8; 32],
+    pub name_len: u8,
+    pub description: [u8; 64],
+    pub description_len: u8,
+    pub units: [u8; 8],
+    pub units_len: u8,
+    pub kind: u8,
+    pub limits: Limits,
+    pub option_count: u8,
+    pub options: [Choice; 8],
+}
+
+// The sheet that the unit was opened with: its first `count` sensors.
+pub struct Sheet {
+    pub api: [u8; 32],
+    pub api_len: u8,
+    pub build: [u8; 32],
+    pub build_len: u8,
+    pub count: u8,
+    pub sensors: [Sensor; 32],
+}
+
+// A strategy with its parameters: periods in milliseconds, differences in millionths; shortest before longest.
+pub enum Strategy {
+    None,
+    Auto,
+    Period(u64),
+    Event,
+    Differential(u64),
+    EventRate(u64, u64),
+    DifferentialRate(u64, u64, u64),
+}
+
+// What a client has asked for a sensor, and the last report it was sent, if `reported`.
+pub struct Subscription {
+    pub strategy: Strategy,
+    pub reported: bool,
+    pub sample: Sample,
+    pub time: u64,
+}
+
+// A sensor's reading and its time.
+pub struct Stored {
+    pub sample: Sample,
+    pub time: u64,
+}
+
+// A client: unconnected, or with the first `address_len` bytes of its address.
+pub struct Client {
+    pub connected: bool,
+    pub address: [u8; 48],
+    pub address_len: u8,
+}
+
+// The whole state. The subscription of client c to sensor j stands at place c * 32 + j.
+pub struct State {
+    pub sheet: Sheet,
+    pub clock: u64,
+    pub halted: bool,
+    pub level: u8,
+    pub readings: [Stored; 32],
+    pub clients: [Client; 8],
+    pub subscriptions: [Subscription; 256],
+}
+
+// What opening a sheet answers.
+pub struct Opened {
+    pub number: u8,
+    pub state: State,
+}
+
+// What every other call answers: its number, how many bytes of the lent output it wrote, and the next state.
+pub struct Answer {
+    pub number: u8,
+    pub written: usize,
+    pub state: State,
+}
+
+// The requests.
+pub enum Request {
+    ClientList,
+    Halt,
+    Help,
+    LogLevel,
+    Restart,
+    SensorList,
+    SensorSampling,
+    SensorValue,
+    VersionList,
+    Watchdog,
+}
+
+// Why subscriptions are visited: a tick, or a reading of a sensor.
+pub enum Cause {
+    Tick,
+    Reading(usize),
+}
+
+// The log level of a fresh device and of a restarted one.
+pub fn start_level() -> u8
+    ensures { λ r. ⌜ r ≡ startLevel ⌝ }
+{
+    4
+}
+
+// What every client and sensor start with: no strategy and no report.
+pub fn no_subscription() -> Subscription
+    ensures { λ r. ⌜ r ≡ noSubscription ⌝ }
+{
+    Subscription {
+        strategy: Strategy::None,
+        reported: false,
+        sample: Sample { kind: 0, number: 0 },
+        time: 0,
+    }
+}
