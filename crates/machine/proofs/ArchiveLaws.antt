@@ -1,0 +1,138 @@
+-- An archive's lines are those of its messages, and its last report is read off either.
+use Prim.Native.Nat.{ℕ, _+_}
+use Prim.Native.Char.{code}
+use mathlib.Core.Path.{_≡_, refl, ap, ap₂, sym, _∙_}
+use mathlib.Core.Bool.{Bool, true, false, cond, not, _&&_}
+use mathlib.Core.List.{List, [], _∷_, _++_, map}
+use mathlib.Core.Option.{Option, none, some}
+use lib.Dec.{eqb, ltb}
+use lib.ListN.{length, getD, drop}
+use Rattle.output.specs.Text.{text, all}
+use Rattle.message.specs.Message.{Message, line}
+use Rattle.message.specs.Delivery.{Delivery, packet}
+use Rattle.line.specs.Line.{message, parse, WellFormed}
+use Rattle.machine.specs.declared.Sheet.{Sheet}
+use Rattle.machine.specs.declared.Strategy.{Strategy}
+use Rattle.machine.specs.Places.{Each, any, has, twice}
+use Rattle.machine.specs.Sheet.{sensorOf, notOnSheet}
+use Rattle.machine.specs.Range.{strategyOk}
+use Rattle.machine.specs.Requests.{strategyNamed, parameterCount, strategyBy, firstOf}
+use Rattle.machine.specs.Declined.{Call}
+use Rattle.machine.specs.Machine.{step}
+use Rattle.machine.specs.Reader.{Told, News, Other, Impossible, Reported, SetTo, agrees, reportRead, agreed, parametersRead, allNumbers, setWith, strategyNews, samplingNews, isNamed, isOk, news, View, viewAfter, viewBy}
+use Rattle.machine.specs.TwoDevices.{after, connects, linesTo, linesOf, sentTo, messagesOf, reportIn, reportBy, later, lastReport, withoutEnd}
+use Rattle.machine.proofs.TestLaws.{cond-either}
+use Rattle.machine.proofs.PlacesLaws.{each-append}
+use Rattle.machine.proofs.FileLaws.{line-parses}
+use Rattle.machine.proofs.ListLaws.{sent-packets}
+
+-- Lines.
+
+lines-packed : (a : ℕ) (ds : List Delivery) → linesTo a (map packet ds) ≡ map line (sentTo a ds)
+unfolding linesTo sentTo
+lines-packed a [] = refl
+lines-packed a (d ∷ ds) = go (eqb (d .client) a) (lines-packed a ds)
+  where
+    go : (b : Bool) → linesTo a (map packet ds) ≡ map line (sentTo a ds)
+        → cond b (line (d .message) ∷ linesTo a (map packet ds)) (linesTo a (map packet ds)) ≡ map line (cond b (d .message ∷ sentTo a ds) (sentTo a ds))
+    go true h = ap (λ l. line (d .message) ∷ l) h
+    go false h = h
+
+lines-append : (xs ys : List Message) → map line (xs ++ ys) ≡ map line xs ++ map line ys
+lines-append [] ys = refl
+lines-append (x ∷ xs) ys = ap (λ l. line x ∷ l) (lines-append xs ys)
+
+module _ (bytes : List ℕ) (a : ℕ) where
+  pub lines-are : (h : List Call) → linesOf bytes a h ≡ map line (messagesOf bytes a h)
+  unfolding linesOf messagesOf
+  lines-are [] = refl
+  lines-are (call ∷ h) = ap₂ _++_ (go (connects bytes a h call) (lines-are h)) (ap (linesTo a) (sent-packets bytes a h call) ∙ lines-packed a (step (after bytes h) call .sent))
+      ∙ sym (lines-append (cond (connects bytes a h call) [] (messagesOf bytes a h)) (sentTo a (step (after bytes h) call .sent)))
+    where
+      go : (b : Bool) → linesOf bytes a h ≡ map line (messagesOf bytes a h) → cond b [] (linesOf bytes a h) ≡ map line (cond b [] (messagesOf bytes a h))
+      go true ih = refl
+      go false ih = ih
+
+-- what holds of every message that is sent holds of those to a client
+each-to : (P : Message → Type 0) (a : ℕ) (ds : List Delivery) → Each (λ (d : Delivery). P (d .message)) ds → Each P (sentTo a ds)
+unfolding sentTo
+each-to P a [] h = tt
+each-to P a (d ∷ ds) h = cond-either (Each P) (eqb (d .client) a) (d .message ∷ sentTo a ds) (sentTo a ds) (h .0, each-to P a ds (h .1)) (each-to P a ds (h .1))
+
+pub each-message : (P : Message → Type 0) (bytes : List ℕ) (a : ℕ) → ((h : List Call) (call : Call) → Each (λ (d : Delivery). P (d .message)) (step (after bytes h) call .sent))
+    → (h : List Call) → Each P (messagesOf bytes a h)
+unfolding messagesOf
+each-message P bytes a sent [] = tt
+each-message P bytes a sent (call ∷ h) = each-append P (cond (connects bytes a h call) [] (messagesOf bytes a h)) (sentTo a (step (after bytes h) call .sent))
+    (cond-either (Each P) (connects bytes a h call) [] (messagesOf bytes a h) tt (each-message P bytes a sent h)) (each-to P a (step (after bytes h) call .sent) (sent h call))
+
+-- The last report.
+
+later-later : (x y z : Option Told) → later (later x y) z ≡ later x (later y z)
+later-later none y z = refl
+later-later (some r) y z = refl
+
+module _ (sheet : Sheet) (j : ℕ) where
+  set-last : (js : List ℕ) (st : Strategy) (v : View) → viewAfter j (SetTo js st) v .last ≡ v .last
+  unfolding viewAfter
+  set-last js st v = cond-either (λ (u : View). u .last ≡ v .last) (has j js) (record { strategy = st; last = v .last }) v refl refl
+
+  with-last : (js : List ℕ) (k : ℕ) (o : Option (List ℕ)) (v : View) → viewAfter j (setWith sheet js k o) v .last ≡ v .last
+  unfolding viewAfter
+  with-last js k none v = refl
+  with-last js k (some ns) v = cond-either (λ w. viewAfter j w v .last ≡ v .last) (all (λ i. strategyOk (sensorOf sheet i .kind) (strategyBy k ns)) js) (SetTo js (strategyBy k ns)) Impossible
+      (set-last js (strategyBy k ns) v) refl
+
+  strategy-last : (js : List ℕ) (args : List (List ℕ)) (v : View) → viewAfter j (strategyNews sheet js args) v .last ≡ v .last
+  unfolding viewAfter strategyNews
+  strategy-last js args v = cond-either (λ w. viewAfter j w v .last ≡ v .last)
+      (not (any (notOnSheet sheet) js) && (not (twice js) && (ltb k 7 && eqb (length args) (1 + parameterCount k)))) (setWith sheet js k numbers) Impossible (with-last js k numbers v) refl
+    where
+      k : ℕ
+      k = strategyNamed (getD args 0 [])
+
+      numbers : Option (List ℕ)
+      numbers = allNumbers (parametersRead (firstOf sheet js) k (drop 1 args))
+
+  -- a sampling reply is no report
+  sampling-last : (m : Message) (v : View) → viewAfter j (samplingNews sheet m) v .last ≡ v .last
+  unfolding samplingNews
+  sampling-last m v = strategy-last _ (drop 2 (m .args)) v
+
+  other-last : (v : View) → viewAfter j Other v .last ≡ v .last
+  unfolding viewAfter
+  other-last v = refl
+
+  -- a report that a device can write
+  told-last : (w : News) (v : View) → (agreed sheet w ≡ Impossible → ⊥) → viewAfter j (agreed sheet w) v .last ≡ later (reportIn j w) (v .last)
+  unfolding viewAfter agreed
+  told-last Other v p = refl
+  told-last Impossible v p = absurd (p refl)
+  told-last (Reported k r) v p = go (agrees (sensorOf sheet k) (r .status) (r .value)) p
+    where
+      go : (b : Bool) → (cond b (Reported k r) Impossible ≡ Impossible → ⊥) → viewAfter j (cond b (Reported k r) Impossible) v .last ≡ later (cond (eqb k j) (some r) none) (v .last)
+      go false q = absurd (q refl)
+      go true q = told (eqb k j)
+        where
+          told : (c : Bool) → cond c (record { strategy = v .strategy; last = some r }) v .last ≡ later (cond c (some r) none) (v .last)
+          told true = refl
+          told false = refl
+  told-last (SetTo js st) v p = set-last js st v
+
+  -- a message that a device can write
+  news-last : (m : Message) (v : View) → (news sheet m ≡ Impossible → ⊥) → viewAfter j (news sheet m) v .last ≡ later (reportBy sheet j (message m)) (v .last)
+  unfolding news
+  news-last m v possible = go (isNamed (code "#") (text "sensor-status") m) possible
+    where
+      go : (b : Bool) → (cond b (agreed sheet (reportRead sheet m)) (cond (isOk (text "sensor-sampling") m) (samplingNews sheet m) Other) ≡ Impossible → ⊥)
+          → viewAfter j (cond b (agreed sheet (reportRead sheet m)) (cond (isOk (text "sensor-sampling") m) (samplingNews sheet m) Other)) v .last
+          ≡ later (cond b (reportIn j (reportRead sheet m)) none) (v .last)
+      go true p = told-last (reportRead sheet m) v p
+      go false p = cond-either (λ w. viewAfter j w v .last ≡ v .last) (isOk (text "sensor-sampling") m) (samplingNews sheet m) Other (sampling-last m v) (other-last v)
+
+  -- over a file
+  pub last-is : (ms : List Message) (v : View) → Each WellFormed ms → Each (λ m. news sheet m ≡ Impossible → ⊥) ms → viewBy sheet j ms v .last ≡ later (lastReport sheet j (map line ms)) (v .last)
+  unfolding viewBy lastReport
+  last-is [] v w p = refl
+  last-is (m ∷ ms) v w p = last-is ms _ (w .1) (p .1) ∙ (ap (later (lastReport sheet j (map line ms))) (news-last m v (p .0) ∙ ap (λ q. later (reportBy sheet j q) (v .last)) (sym (line-parses m (w .0))))
+      ∙ sym (later-later (lastReport sheet j (map line ms)) (reportBy sheet j (parse (withoutEnd (line m)))) (v .last)))

@@ -1,0 +1,187 @@
+-- What document 01 reads off a list of calls is what the state holds that the list ends with.
+use Prim.Native.Nat.{ℕ, suc, _<_}
+use native.Mathlib.Omega.{arith}
+use mathlib.Core.Path.{_≡_, refl, ap, sym, _∙_, subst}
+use mathlib.Core.Bool.{Bool, true, false, cond, _&&_, _||_, true≢false}
+use mathlib.Core.List.{List, [], _∷_, _++_, map}
+use mathlib.Core.Option.{Option, some}
+use lib.Dec.{eqb, ltb}
+use lib.ListN.{getD}
+use borrow.Author.Tests.{eqb-true, lt-ltb}
+use Rattle.message.specs.Message.{Message}
+use Rattle.message.specs.Delivery.{Delivery, packet}
+use Rattle.value.specs.declared.Reading.{Reading as Given-reading}
+use Rattle.value.specs.Reading.{fresh as freshSample}
+use Rattle.machine.specs.declared.Sheet.{Sheet}
+use Rattle.machine.specs.declared.State.{State}
+use Rattle.machine.specs.declared.Stored.{Stored}
+use Rattle.machine.specs.declared.Opened.{Opened}
+use Rattle.machine.specs.Places.{isZero}
+use Rattle.machine.specs.Sheet.{sensorOf, sheetOk}
+use Rattle.machine.specs.State.{present, storedOf, noStored, connected, pairOf, noSubscription, withClient, freshReadings, fresh, blank}
+use Rattle.machine.specs.Opening.{Taken, broken, taken, accepted as openedFrom, sheetAt, opened}
+use Rattle.machine.specs.Declined.{Action, Connect, Disconnect, Tick, Reading, Log, Line, Call, actionDeclined, declined}
+use Rattle.machine.specs.Machine.{Effect, perform, step, sampleGiven}
+use Rattle.machine.specs.Reader.{View, viewBy, noView, viewOf, standing}
+use Rattle.machine.specs.TwoDevices.{after, sheetOf, returnedZero, packetsOf, connects, isConnect, isDisconnect, endsAll, connectedAtEnd, sentTo, messagesOf, readingBy, lastReading, sampleFrom, clockOf, clockBy}
+use Rattle.machine.proofs.TestLaws.{cond-true, cond-cases, eqb-sym}
+use Rattle.machine.proofs.PlacesLaws.{getD-tabulate}
+use Rattle.machine.proofs.StateLaws.{nobody-there, stored-after, pair-of-client}
+use Rattle.machine.proofs.StepLaws.{by-cases, accepted, client-fits}
+use Rattle.machine.proofs.RangeLaws.{range-out}
+use Rattle.machine.proofs.QuietLaws.{connect-sends-quiet, refusal-quiet}
+use Rattle.machine.proofs.HeardLaws.{heard, view-append, quiet-heard}
+use Rattle.machine.proofs.KeptLaws.{perform-kept}
+use Rattle.machine.proofs.AnsweredLaws.{packets-are}
+use Rattle.machine.proofs.NextLaws.{perform-sheet, perform-clock, perform-connected, line-keeps, endsConnections}
+use Rattle.machine.proofs.GrantedLaws.{ends-is}
+use Rattle.machine.proofs.Sent.{sent-short}
+
+-- an opened state is a fresh one or the blank one
+pub opened-either : (P : State → Type 0) (bytes : List ℕ) → ((sheet : Sheet) → sheetOk sheet ≡ true → P (fresh sheet)) → P blank → P (opened bytes .state)
+unfolding opened
+opened-either P bytes new old = go (sheetAt bytes)
+  where
+    go : (t : Taken Sheet) → P (openedFrom t .state)
+    go broken = old
+    go (taken sheet []) = cond-cases (λ (o : Opened). P (o .state)) (sheetOk sheet) _ _ (new sheet) (λ e. old)
+    go (taken sheet (b ∷ rest)) = old
+
+-- no client is connected at first
+pub opened-alone : (bytes : List ℕ) (a : ℕ) → connected (opened bytes .state) a ≡ false
+opened-alone bytes a = opened-either (λ s. connected s a ≡ false) bytes (λ sheet ok. nobody-there a) (nobody-there a)
+
+module _ (bytes : List ℕ) where
+  -- no call touches the sheet
+  pub sheet-is : (h : List Call) → after bytes h .sheet ≡ sheetOf bytes
+  unfolding after
+  sheet-is [] = refl
+  sheet-is (call ∷ h) = by-cases (λ (e : Effect). e .next .sheet ≡ sheetOf bytes) (after bytes h) call (λ _. perform-sheet (after bytes h) (call .action) ∙ sheet-is h) (λ n _. sheet-is h)
+
+  pub clock-is : (h : List Call) → after bytes h .clock ≡ clockOf bytes h
+  unfolding after clockOf
+  clock-is [] = opened-either (λ s. s .clock ≡ 0) bytes (λ sheet ok. refl) refl
+  clock-is (call ∷ h) = by-cases (λ (e : Effect). e .next .clock ≡ cond (isZero (e .number)) (clockBy (call .action) (clockOf bytes h)) (clockOf bytes h)) (after bytes h) call
+      (λ _. perform-clock (after bytes h) (call .action) ∙ ap (clockBy (call .action)) (clock-is h)) (λ n _. clock-is h)
+
+-- the present reading after a call
+perform-reading : (s : State) (j : ℕ) → j < 32 → (action : Action) (o : Option Given-reading) → present s j ≡ sampleFrom (sensorOf (s .sheet) j) o
+    → present (perform (s .sheet) s action .next) j ≡ sampleFrom (sensorOf (s .sheet) j) (readingBy j action o)
+unfolding perform withClient
+perform-reading s j hj (Connect c address) o h = h
+perform-reading s j hj (Disconnect c) o h = h
+perform-reading s j hj (Tick t) o h = h
+perform-reading s j hj (Reading k r) o h = ap (λ (x : Stored). x .sample) (stored-after s k j (sampleGiven (sensorOf (s .sheet) k) r) hj) ∙ (ap (λ b. cond b y (storedOf s j) .sample) (eqb-sym j k) ∙ go (eqb k j) refl)
+  where
+    y : Stored
+    y = record { sample = sampleGiven (sensorOf (s .sheet) k) r; time = s .clock }
+
+    go : (b : Bool) → eqb k j ≡ b → cond b y (storedOf s j) .sample ≡ sampleFrom (sensorOf (s .sheet) j) (cond b (some r) o)
+    go true e = ap (λ i. sampleGiven (sensorOf (s .sheet) i) r) (eqb-true k j e)
+    go false e = h
+perform-reading s j hj (Log level logger said) o h = h
+perform-reading s j hj (Line c line) o h = ap (λ (l : List Stored). getD l j noStored .sample) (line-keeps s c line .0) ∙ h
+
+module _ (bytes : List ℕ) (j : ℕ) (hj : j < 32) (hs : j < sheetOf bytes .count) where
+  opened-reading : present (opened bytes .state) j ≡ freshSample (sensorOf (sheetOf bytes) j .kind)
+  unfolding freshReadings
+  opened-reading = opened-either (λ s. j < s .sheet .count → present s j ≡ freshSample (sensorOf (s .sheet) j .kind)) bytes
+      (λ sheet ok l. ap (λ (x : Stored). x .sample) (getD-tabulate _ 32 j noStored hj) ∙ ap (λ (x : Stored). x .sample) (cond-true (ltb j (sheet .count)) _ noStored (lt-ltb j (sheet .count) l)))
+      (λ l. absurd (omega arith)) hs
+
+  pub reading-is : (h : List Call) → present (after bytes h) j ≡ sampleFrom (sensorOf (sheetOf bytes) j) (lastReading bytes j h)
+  unfolding after lastReading
+  reading-is [] = opened-reading
+  reading-is (call ∷ h) = by-cases (λ (e : Effect). present (e .next) j ≡ sampleFrom (sensorOf (sheetOf bytes) j) (cond (isZero (e .number)) (readingBy j (call .action) (lastReading bytes j h)) (lastReading bytes j h))) (after bytes h) call
+      (λ _. subst (λ sheet. present (perform (after bytes h .sheet) (after bytes h) (call .action) .next) j ≡ sampleFrom (sensorOf sheet j) (readingBy j (call .action) (lastReading bytes j h))) (sheet-is bytes h)
+      (perform-reading (after bytes h) j hj (call .action) (lastReading bytes j h)
+      (subst (λ sheet. present (after bytes h) j ≡ sampleFrom (sensorOf sheet j) (lastReading bytes j h)) (sym (sheet-is bytes h)) (reading-is h))))
+      (λ n _. reading-is h)
+
+-- Connection.
+
+module _ (bytes : List ℕ) (a : ℕ) where
+  pub sent-packets : (h : List Call) (call : Call) → packetsOf bytes h call ≡ map packet (step (after bytes h) call .sent)
+  sent-packets h call = packets-are bytes h call (sent-short (after bytes h) call)
+
+  pub connected-is : a < 8 → (h : List Call) → connected (after bytes h) a ≡ connectedAtEnd bytes a h
+  unfolding after connectedAtEnd
+  connected-is ha [] = opened-alone bytes a
+  connected-is ha (call ∷ h) = by-cases (λ (e : Effect). connected (e .next) a
+      ≡ cond (isZero (e .number) && isConnect a (call .action)) true (cond ((isZero (e .number) && isDisconnect a (call .action)) || (isZero (e .number) && endsConnections (call .action))) false (connectedAtEnd bytes a h)))
+      (after bytes h) call
+      (λ _. perform-connected (after bytes h) a ha (call .action) ∙ ap (λ b. cond (isConnect a (call .action)) true (cond (isDisconnect a (call .action) || endsConnections (call .action)) false b)) (connected-is ha h))
+      (λ n _. connected-is ha h)
+      ∙ ap (λ b. cond (connects bytes a h call) true (cond ((isZero (step (after bytes h) call .number) && isDisconnect a (call .action)) || b) false (connectedAtEnd bytes a h)))
+      (sym (ap (endsAll (call .action)) (sent-packets h call) ∙ ends-is (after bytes h) (call .action) (call .lent)))
+
+  -- only clients below 8 connect
+  connect-fits : (s : State) (action : Action) → actionDeclined (s .sheet) s action ≡ 0 → isConnect a action ≡ true → a < 8
+  unfolding actionDeclined
+  connect-fits s (Connect c address) d e = rw (← eqb-true c a e) (client-fits (connected s c) c _ d .0)
+  connect-fits s (Disconnect c) d e = absurd (true≢false (sym e))
+  connect-fits s (Tick t) d e = absurd (true≢false (sym e))
+  connect-fits s (Reading j r) d e = absurd (true≢false (sym e))
+  connect-fits s (Log level logger said) d e = absurd (true≢false (sym e))
+  connect-fits s (Line c line) d e = absurd (true≢false (sym e))
+
+  connect-small : (s : State) (call : Call) → (isZero (step s call .number) && isConnect a (call .action)) ≡ true → a < 8
+  connect-small s call = by-cases (λ (e : Effect). (isZero (e .number) && isConnect a (call .action)) ≡ true → a < 8) s call
+      (λ z. connect-fits s (call .action) (accepted s call z .fits)) (λ n _ e. absurd (true≢false (sym e)))
+
+  pub at-end-small : (h : List Call) → connectedAtEnd bytes a h ≡ true → a < 8
+  unfolding connectedAtEnd
+  at-end-small [] e = absurd (true≢false (sym e))
+  at-end-small (call ∷ h) e = go (connects bytes a h call) ((returnedZero bytes h call && isDisconnect a (call .action)) || endsAll (call .action) (packetsOf bytes h call)) refl e (at-end-small h)
+    where
+      go : (b d : Bool) → connects bytes a h call ≡ b → cond b true (cond d false (connectedAtEnd bytes a h)) ≡ true → (connectedAtEnd bytes a h ≡ true → a < 8) → a < 8
+      go true d q t ih = connect-small (after bytes h) call q
+      go false true q t ih = absurd (true≢false (sym t))
+      go false false q t ih = ih t
+
+-- The standing of a sensor, by the messages.
+
+module _ (a j : ℕ) (ha : a < 8) (hj : j < 32) where
+  -- a client that has just connected
+  pub connect-pair : (s : State) (action : Action) → isConnect a action ≡ true → pairOf (perform (s .sheet) s action .next) a j ≡ noSubscription
+  unfolding perform
+  connect-pair s (Connect c address) e = pair-of-client s a j ha hj c _ ∙ cond-true (eqb a c) noSubscription (pairOf s a j) (eqb-sym a c ∙ e)
+  connect-pair s (Disconnect c) e = absurd (true≢false (sym e))
+  connect-pair s (Tick t) e = absurd (true≢false (sym e))
+  connect-pair s (Reading k r) e = absurd (true≢false (sym e))
+  connect-pair s (Log level logger said) e = absurd (true≢false (sym e))
+  connect-pair s (Line c line) e = absurd (true≢false (sym e))
+
+  connect-quiet : (s : State) (action : Action) (v : View) → isConnect a action ≡ true → heard (s .sheet) a j (perform (s .sheet) s action .sent) v ≡ v
+  unfolding perform
+  connect-quiet s (Connect c address) v e = quiet-heard (s .sheet) a j _ v (connect-sends-quiet (s .sheet) s c address)
+  connect-quiet s (Disconnect c) v e = absurd (true≢false (sym e))
+  connect-quiet s (Tick t) v e = absurd (true≢false (sym e))
+  connect-quiet s (Reading k r) v e = absurd (true≢false (sym e))
+  connect-quiet s (Log level logger said) v e = absurd (true≢false (sym e))
+  connect-quiet s (Line c line) v e = absurd (true≢false (sym e))
+
+  -- one call
+  heard-step : (s : State) (call : Call) (ms : List Message) → (connected s a ≡ true → standing (s .sheet) s a j ≡ viewBy (s .sheet) j ms noView) → connected (step s call .next) a ≡ true
+      → standing (s .sheet) (step s call .next) a j ≡ viewBy (s .sheet) j (cond (isZero (step s call .number) && isConnect a (call .action)) [] ms ++ sentTo a (step s call .sent)) noView
+  unfolding heard
+  heard-step s call ms ih = by-cases (λ (e : Effect). connected (e .next) a ≡ true
+      → standing (s .sheet) (e .next) a j ≡ viewBy (s .sheet) j (cond (isZero (e .number) && isConnect a (call .action)) [] ms ++ sentTo a (e .sent)) noView) s call
+      (λ z on. go z on (isConnect a (call .action)) refl)
+      (λ n _ on. ih on ∙ (sym (quiet-heard (s .sheet) a j _ _ (refusal-quiet (s .sheet) s (suc n) (call .action))) ∙ sym (view-append (s .sheet) j ms (sentTo a _) noView)))
+    where
+      w : List Delivery
+      w = perform (s .sheet) s (call .action) .sent
+
+      go : declined (s .sheet) s call ≡ 0 → connected (perform (s .sheet) s (call .action) .next) a ≡ true → (b : Bool) → isConnect a (call .action) ≡ b
+          → standing (s .sheet) (perform (s .sheet) s (call .action) .next) a j ≡ viewBy (s .sheet) j (cond b [] ms ++ sentTo a w) noView
+      go z on true e = ap (viewOf (sensorOf (s .sheet) j)) (connect-pair s (call .action) e) ∙ sym (connect-quiet s (call .action) noView e)
+      go z on false e = let k = perform-kept s (range-out s (accepted s call z .in-range)) a j ha hj (call .action) (accepted s call z .fits) e on in
+          k .heard-is ∙ (ap (heard (s .sheet) a j w) (ih (k .before)) ∙ sym (view-append (s .sheet) j ms (sentTo a w) noView))
+
+  pub heard-is : (bytes : List ℕ) (h : List Call) → connected (after bytes h) a ≡ true → standing (sheetOf bytes) (after bytes h) a j ≡ viewBy (sheetOf bytes) j (messagesOf bytes a h) noView
+  unfolding after messagesOf
+  heard-is bytes [] on = absurd (true≢false (sym on ∙ opened-alone bytes a))
+  heard-is bytes (call ∷ h) on = subst (λ sheet. standing sheet (step (after bytes h) call .next) a j ≡ viewBy sheet j (messagesOf bytes a (call ∷ h)) noView) (sheet-is bytes h)
+      (heard-step (after bytes h) call (messagesOf bytes a h)
+      (λ q. subst (λ sheet. standing sheet (after bytes h) a j ≡ viewBy sheet j (messagesOf bytes a h) noView) (sym (sheet-is bytes h)) (heard-is bytes h q)) on)

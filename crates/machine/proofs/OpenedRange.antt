@@ -1,0 +1,93 @@
+-- The state that opening returns is in range: the blank one, and that of a sheet that keeps the rules.
+use Prim.Native.Nat.{ℕ, _/_, _<_}
+use native.Mathlib.Omega.{arith}
+use mathlib.Core.Path.{_≡_, refl, ap}
+use mathlib.Core.Bool.{Bool, true, false, cond, _||_}
+use mathlib.Core.List.{List, [], _∷_}
+use lib.Dec.{leb, ltb}
+use lib.ListN.{getD, replicate}
+use Rattle.value.specs.Reading.{fresh as freshSample}
+use Rattle.value.proofs.SampleLaws.{fresh-fits}
+use Rattle.machine.specs.declared.Sheet.{Sheet}
+use Rattle.machine.specs.declared.Client.{Client}
+use Rattle.machine.specs.Places.{allBelow}
+use Rattle.machine.specs.Sheet.{sensorOf, textOk, choiceNone, limitsNone, sensorNone, distinct, sensorsOk, titlesNone, titlesOk, sheetOk}
+use Rattle.machine.specs.State.{noStored, noSubscription, noClient, connected, blankClient, blankSheet, freshReadings, fresh, blank}
+use Rattle.machine.specs.Range.{sampleOk, storedOk, storedNone, storedOkAt, clientOk, pairOkAt, noClients, isBlank}
+use Rattle.machine.specs.Opening.{Taken, broken, taken, sheetAt, refused, accepted, opened}
+use Rattle.machine.proofs.TestLaws.{and-true, and-in, or-in}
+use Rattle.machine.proofs.PlacesLaws.{below-at, getD-tabulate, getD-replicate-same, replicate-either}
+use Rattle.machine.proofs.RangeLaws.{InRange}
+use Rattle.machine.proofs.PairRange.{pairFits, pair-of-no-subscription}
+
+-- Nobody is connected, and no pair is set.
+
+pub nobody-in : (c : ℕ) → clientOk (getD (replicate 8 blankClient) c noClient) ≡ true
+unfolding clientOk textOk
+nobody-in c = replicate-either (λ (k : Client). clientOk k ≡ true) 8 c blankClient noClient refl refl
+
+pub no-pair-in : (sheet : Sheet) (clock : ℕ) (there : Bool) (p : ℕ) → pairFits sheet clock there p (getD (replicate 256 noSubscription) p noSubscription) ≡ true
+no-pair-in sheet clock there p = rw (getD-replicate-same 256 p noSubscription) (pair-of-no-subscription sheet clock there p)
+
+-- The blank state.
+
+blank-titles : isBlank blank ≡ true
+unfolding isBlank titlesNone textOk noClients allBelow
+blank-titles = refl
+
+blank-sensors : sensorsOk blankSheet ≡ true
+unfolding sensorsOk sensorNone textOk limitsNone choiceNone distinct allBelow
+blank-sensors = refl
+
+blank-stored : allBelow (storedOkAt blank) 32 ≡ true
+unfolding storedOkAt storedNone allBelow
+blank-stored = refl
+
+pub blank-range : InRange blank
+unfolding pairOkAt
+blank-range = record {
+  titles-in = or-in (titlesOk blankSheet) (isBlank blank) blank-titles;
+  sensors-in = blank-sensors;
+  clock-in = omega arith;
+  level-in = omega arith;
+  stored-in = λ j h. below-at (storedOkAt blank) 32 j blank-stored h;
+  client-in = λ c h. nobody-in c;
+  pair-in = λ p h. no-pair-in blankSheet 0 (connected blank (p / 32)) p;
+}
+
+-- A fresh device.
+
+module _ (sheet : Sheet) where
+  fresh-stored : (j : ℕ) → j < 32 → storedOkAt (fresh sheet) j ≡ true
+  unfolding storedOkAt storedOk storedNone freshReadings
+  fresh-stored j h = rw (getD-tabulate _ 32 j noStored h) (go (ltb j (sheet .count)))
+    where
+      go : (b : Bool) → cond b (storedOk 0 (sensorOf sheet j) (cond b (record { sample = freshSample (sensorOf sheet j .kind); time = 0 }) noStored))
+          (storedNone (cond b (record { sample = freshSample (sensorOf sheet j .kind); time = 0 }) noStored)) ≡ true
+      go true = and-in (sampleOk (sensorOf sheet j) (freshSample (sensorOf sheet j .kind))) (leb 0 0) (fresh-fits (sensorOf sheet j .kind) (sensorOf sheet j .«option_count»)) refl
+      go false = refl
+
+  pub fresh-range : sheetOk sheet ≡ true → InRange (fresh sheet)
+  unfolding sheetOk pairOkAt
+  fresh-range h = let a = and-true (titlesOk sheet) (sensorsOk sheet) h in record {
+    titles-in = ap (λ b. b || isBlank (fresh sheet)) (a .0);
+    sensors-in = a .1;
+    clock-in = omega arith;
+    level-in = omega arith;
+    stored-in = fresh-stored;
+    client-in = λ c h. nobody-in c;
+    pair-in = λ p h. no-pair-in sheet 0 (connected (fresh sheet) (p / 32)) p;
+  }
+
+pub opened-range : (bytes : List ℕ) → InRange (opened bytes .state)
+unfolding opened
+opened-range bytes = go (sheetAt bytes)
+  where
+    ruled : (sheet : Sheet) (b : Bool) → sheetOk sheet ≡ b → InRange (cond b (record { number = 0; state = fresh sheet }) refused .state)
+    ruled sheet true e = fresh-range sheet e
+    ruled sheet false e = blank-range
+
+    go : (t : Taken Sheet) → InRange (accepted t .state)
+    go broken = blank-range
+    go (taken sheet []) = ruled sheet (sheetOk sheet) refl
+    go (taken sheet (b ∷ rest)) = blank-range

@@ -1,0 +1,142 @@
+-- Lists by place.
+use Prim.Native.Nat.{ℕ, zero, suc, _+_, _*_, _≤_, _<_}
+use native.Mathlib.Omega.{arith}
+use mathlib.Core.Path.{_≡_, refl, ap, sym, _∙_}
+use mathlib.Core.Bool.{Bool, true, false, cond, true≢false}
+use mathlib.Core.List.{List, [], _∷_, _++_, map}
+use lib.Dec.{eqb, ltb}
+use lib.ListN.{length, getD, replicate, length-append, List·getD-append}
+use lib.Seq.{getD-append-seam}
+use borrow.Author.Tests.{ltb-true, ltb-false, eqb-true}
+use Rattle.machine.specs.Places.{tabulate, gather, oneIf, any, allBelow, firstBelow, has, Each}
+use Rattle.machine.proofs.TestLaws.{and-true, and-in, or-false, or-true}
+
+module _ {A : Type 0} (f : ℕ → A) where
+  pub length-tabulate : (n : ℕ) → length (tabulate f n) ≡ n
+  unfolding tabulate
+  length-tabulate zero = refl
+  length-tabulate (suc n) = length-append (tabulate f n) (f n ∷ []) ∙ (ap (λ k. k + 1) (length-tabulate n) ∙ omega arith)
+
+  pub getD-tabulate : (n i : ℕ) (d : A) → i < n → getD (tabulate f n) i d ≡ f i
+  unfolding tabulate
+  getD-tabulate zero i d h = absurd (omega arith)
+  getD-tabulate (suc n) i d h = go (ltb i n) refl (getD-tabulate n i d)
+    where
+      go : (b : Bool) → ltb i n ≡ b → (i < n → getD (tabulate f n) i d ≡ f i) → getD (tabulate f n ++ (f n ∷ [])) i d ≡ f i
+      go true e ih = List·getD-append (tabulate f n) (f n ∷ []) d i (rw (length-tabulate n) (ltb-true i n e)) ∙ ih (ltb-true i n e)
+      go false e ih = let q : i ≡ n = omega (arith, ltb-false i n e) in
+          ap (λ k. getD (tabulate f n ++ (f n ∷ [])) k d) (q ∙ sym (length-tabulate n)) ∙ (getD-append-seam (tabulate f n) (f n) [] d ∙ ap f (sym q))
+
+module _ {A : Type 0} where
+  pub getD-replicate-same : (n i : ℕ) (d : A) → getD (replicate n d) i d ≡ d
+  getD-replicate-same zero i d = refl
+  getD-replicate-same (suc n) zero d = refl
+  getD-replicate-same (suc n) (suc i) d = getD-replicate-same n i d
+
+  pub replicate-either : (P : A → Type 0) (n i : ℕ) (x d : A) → P x → P d → P (getD (replicate n x) i d)
+  replicate-either P zero i x d h k = k
+  replicate-either P (suc n) zero x d h k = h
+  replicate-either P (suc n) (suc i) x d h k = replicate-either P n i x d h k
+
+  -- what is said of each, over one list after another
+  pub each-append : (P : A → Type 0) (xs ys : List A) → Each P xs → Each P ys → Each P (xs ++ ys)
+  each-append P [] ys h k = k
+  each-append P (x ∷ xs) ys h k = (h .0, each-append P xs ys (h .1) k)
+
+  pub each-gather : (P : A → Type 0) (f : ℕ → List A) (n : ℕ) → ((i : ℕ) → i < n → Each P (f i)) → Each P (gather f n)
+  unfolding gather
+  each-gather P f zero h = tt
+  each-gather P f (suc n) h = each-append P (gather f n) (f n) (each-gather P f n (λ i k. h i (omega arith))) (h n (omega arith))
+
+  pub each-one : (P : A → Type 0) (b : Bool) (x : A) → (b ≡ true → P x) → Each P (oneIf b x)
+  each-one P true x h = (h refl, tt)
+  each-one P false x h = tt
+
+  pub each-weaker : (P Q : A → Type 0) → ((x : A) → P x → Q x) → (xs : List A) → Each P xs → Each Q xs
+  each-weaker P Q f [] h = tt
+  each-weaker P Q f (x ∷ xs) h = (f x (h .0), each-weaker P Q f xs (h .1))
+
+  pub each-any-false : (f : A → Bool) (xs : List A) → any f xs ≡ false → Each (λ x. f x ≡ false) xs
+  unfolding any
+  each-any-false f [] h = tt
+  each-any-false f (x ∷ xs) h = let q = or-false (f x) (any f xs) h in (q .0, each-any-false f xs (q .1))
+
+module _ {A B : Type 0} where
+  pub each-map : (P : B → Type 0) (f : A → B) (xs : List A) → Each (λ x. P (f x)) xs → Each P (map f xs)
+  each-map P f [] h = tt
+  each-map P f (x ∷ xs) h = (h .0, each-map P f xs (h .1))
+
+pub below-at : (f : ℕ → Bool) (n p : ℕ) → allBelow f n ≡ true → p < n → f p ≡ true
+unfolding allBelow
+below-at f zero p h k = absurd (omega arith)
+below-at f (suc n) p h k = go (ltb p n) refl (below-at f n p)
+  where
+    q : (allBelow f n ≡ true) × (f n ≡ true)
+    q = and-true (allBelow f n) (f n) h
+
+    go : (b : Bool) → ltb p n ≡ b → (allBelow f n ≡ true → p < n → f p ≡ true) → f p ≡ true
+    go true e ih = ih (q .0) (ltb-true p n e)
+    go false e ih = let r : p ≡ n = omega (arith, ltb-false p n e) in ap f r ∙ q .1
+
+pub below-of : (f : ℕ → Bool) (n : ℕ) → ((p : ℕ) → p < n → f p ≡ true) → allBelow f n ≡ true
+unfolding allBelow
+below-of f zero h = refl
+below-of f (suc n) h = and-in (allBelow f n) (f n) (below-of f n (λ p k. h p (omega arith))) (h n (omega arith))
+
+-- the first place where a test holds: it holds there, and nowhere before
+pub first-most : (f : ℕ → Bool) (n : ℕ) → firstBelow f n ≤ n
+unfolding firstBelow
+first-most f zero = omega arith
+first-most f (suc n) = go (ltb (firstBelow f n) n) (f n) (first-most f n)
+  where
+    go : (b c : Bool) → firstBelow f n ≤ n → cond b (firstBelow f n) (cond c n (suc n)) ≤ suc n
+    go true c h = omega arith
+    go false true h = omega arith
+    go false false h = omega arith
+
+pub first-holds : (f : ℕ → Bool) (n : ℕ) → firstBelow f n < n → f (firstBelow f n) ≡ true
+unfolding firstBelow
+first-holds f zero h = absurd (omega arith)
+first-holds f (suc n) h = go (ltb (firstBelow f n) n) (f n) refl refl (first-holds f n) h
+  where
+    go : (b c : Bool) → ltb (firstBelow f n) n ≡ b → f n ≡ c → (firstBelow f n < n → f (firstBelow f n) ≡ true)
+        → cond b (firstBelow f n) (cond c n (suc n)) < suc n → f (cond b (firstBelow f n) (cond c n (suc n))) ≡ true
+    go true c e g ih l = ih (ltb-true (firstBelow f n) n e)
+    go false true e g ih l = g
+    go false false e g ih l = absurd (omega arith)
+
+pub first-none : (f : ℕ → Bool) (n j : ℕ) → firstBelow f n ≡ n → j < n → f j ≡ false
+unfolding firstBelow
+first-none f zero j e h = absurd (omega arith)
+first-none f (suc n) j e h = go (ltb (firstBelow f n) n) (f n) refl refl e (first-none f n j)
+  where
+    go : (b c : Bool) → ltb (firstBelow f n) n ≡ b → f n ≡ c → cond b (firstBelow f n) (cond c n (suc n)) ≡ suc n
+        → (firstBelow f n ≡ n → j < n → f j ≡ false) → f j ≡ false
+    go true c l g q ih = absurd (omega (arith, ltb-true (firstBelow f n) n l))
+    go false true l g q ih = absurd (omega arith)
+    go false false l g q ih = last (ltb j n) refl
+      where
+        last : (b : Bool) → ltb j n ≡ b → f j ≡ false
+        last true r = ih (omega (arith, ltb-false (firstBelow f n) n l, first-most f n)) (ltb-true j n r)
+        last false r = let k : j ≡ n = omega (arith, ltb-false j n r) in ap f k ∙ g
+
+-- where a test holds at one place alone, that is the first
+pub first-is : (f : ℕ → Bool) (n j : ℕ) → j < n → f j ≡ true → ((i : ℕ) → i < n → f i ≡ true → i ≡ j) → firstBelow f n ≡ j
+first-is f n j h t only = go (ltb (firstBelow f n) n) refl
+  where
+    go : (b : Bool) → ltb (firstBelow f n) n ≡ b → firstBelow f n ≡ j
+    go true e = only (firstBelow f n) (ltb-true (firstBelow f n) n e) (first-holds f n (ltb-true (firstBelow f n) n e))
+    go false e = absurd (true≢false (sym t ∙ first-none f n j (omega (arith, ltb-false (firstBelow f n) n e, first-most f n)) h))
+
+-- what is collected over places, where each place adds at most k
+pub gather-length : {A : Type 0} (f : ℕ → List A) (k n : ℕ) → ((i : ℕ) → length (f i) ≤ k) → length (gather f n) ≤ n * k
+unfolding gather
+gather-length f k zero h = omega arith
+gather-length f k (suc n) h = let ih = gather-length f k n h in omega (arith, length-append (gather f n) (f n), h n)
+
+-- numbers in a list
+
+pub each-has : (P : ℕ → Type 0) (j : ℕ) (js : List ℕ) → Each P js → has j js ≡ true → P j
+unfolding has any
+each-has P j [] h t = absurd (true≢false (sym t))
+each-has P j (k ∷ ks) h t = or-true (P j) (eqb j k) (has j ks) t (λ e. rw (eqb-true j k e) (h .0)) (λ e. each-has P j ks (h .1) e)

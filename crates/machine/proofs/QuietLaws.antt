@@ -1,0 +1,158 @@
+-- Messages that tell the reader nothing.
+use Prim.Native.Nat.{ℕ}
+use mathlib.Core.Path.{_≡_, refl, ap, sym, _∙_}
+use mathlib.Core.Bool.{Bool, true, false, cond, not, _&&_, _||_, true≢false}
+use mathlib.Core.List.{List, [], _∷_, map}
+use mathlib.Core.Option.{some}
+use lib.Dec.{eqb, leb, ltb}
+use Rattle.output.specs.Text.{text, same}
+use Rattle.message.specs.Message.{Message}
+use Rattle.message.specs.Delivery.{Delivery, to}
+use Rattle.machine.specs.declared.Sheet.{Sheet}
+use Rattle.machine.specs.declared.State.{State}
+use Rattle.machine.specs.declared.Request.{Request}
+use Rattle.machine.specs.declared.Request.the-variants.{ClientList, Halt, Help, LogLevel, Restart, SensorList, SensorSampling, SensorValue, VersionList, Watchdog}
+use Rattle.machine.specs.Places.{Each}
+use Rattle.machine.specs.Sheet.{sensorOf}
+use Rattle.machine.specs.State.{connected, startLevel}
+use Rattle.machine.specs.Messages
+use Rattle.machine.specs.Requests.{endConnections, requestNamed, Asked, Nothing, NotMessage, Reply, Unknown, Asks, asked, askedPlaces, helpNames, addresses, levelAsked, answer}
+use Rattle.machine.specs.Declined.{Action, Connect, Disconnect, Tick, Reading, Log, Line, lineRefusal, refusal}
+use Rattle.machine.specs.Machine.{connectSends, entries}
+use Rattle.machine.specs.Reader.{Other, samplingNews, news}
+use Rattle.machine.proofs.TestLaws.{cond-false}
+use Rattle.machine.proofs.PlacesLaws.{each-append, each-gather, each-one, each-map}
+use Rattle.machine.proofs.StepLaws.{nameFor, request-name}
+
+-- a delivery that tells nothing
+abbrev pub Silent : Sheet → Delivery → Type 0
+Silent sheet d = news sheet (d .message) ≡ Other
+
+-- each tells nothing
+abbrev pub Quiet : Sheet → List Delivery → Type 0
+Quiet sheet ds = Each (Silent sheet) ds
+
+where-quiet : (sheet : Sheet) (is : ℕ → Bool) (m : Message) → news sheet m ≡ Other → Quiet sheet (Messages.toWhere is m)
+unfolding Messages.toWhere
+where-quiet sheet is m h = each-gather (Silent sheet) _ 8 (λ c l. each-one (Silent sheet) (is c) (to c m) (λ t. h))
+
+pub connect-sends-quiet : (sheet : Sheet) (s : State) (c : ℕ) (address : List ℕ) → Quiet sheet (connectSends sheet s c address)
+unfolding connectSends news
+connect-sends-quiet sheet s c address = (refl, (refl, where-quiet sheet (λ k. connected s k && not (eqb k c)) (Messages.clientConnected address) refl))
+
+pub entries-quiet : (sheet : Sheet) (s : State) (level : ℕ) (logger said : List ℕ) → Quiet sheet (entries s level logger said)
+unfolding entries news
+entries-quiet sheet s level logger said = go (leb level (s .level))
+  where
+    go : (b : Bool) → Quiet sheet (cond b (Messages.toAll s (Messages.logEntry level (s .clock) logger said)) [])
+    go true = where-quiet sheet (connected s) (Messages.logEntry level (s .clock) logger said) refl
+    go false = tt
+
+-- Answers.
+
+-- a request of sampling
+abbrev pub isSampling : Request → Bool
+isSampling ClientList = false
+isSampling Halt = false
+isSampling Help = false
+isSampling LogLevel = false
+isSampling Restart = false
+isSampling SensorList = false
+isSampling SensorSampling = true
+isSampling SensorValue = false
+isSampling VersionList = false
+isSampling Watchdog = false
+
+-- a reply under another name than that of sampling
+reply-quiet : (sheet : Sheet) (m : Message) (args : List (List ℕ)) → same (m .name) (text "sensor-sampling") ≡ false → news sheet (Messages.reply m args) ≡ Other
+unfolding news
+reply-quiet sheet m args h = rw h
+
+counted-quiet : (sheet : Sheet) (c : ℕ) (m : Message) (ms : List Message) → same (m .name) (text "sensor-sampling") ≡ false
+    → Each (λ m. news sheet m ≡ Other) ms → Quiet sheet (Messages.countedAnswer c m ms)
+unfolding Messages.countedAnswer
+counted-quiet sheet c m ms h k = each-append (Silent sheet) (map (to c) ms) _ (each-map (Silent sheet) (to c) ms k) (reply-quiet sheet m _ h, tt)
+
+every : {A B : Type 0} (P : B → Type 0) (f : A → B) (xs : List A) → ((x : A) → P (f x)) → Each P (map f xs)
+every P f [] h = tt
+every P f (x ∷ xs) h = (h x, every P f xs h)
+
+-- the name of a request in the table, by the row that has it
+row-other : (t : List ℕ) (r : Request) → requestNamed t ≡ some r → same t (text "sensor-sampling") ≡ false → same (nameFor r) (text "sensor-sampling") ≡ false
+row-other t r e h = ap (λ t. same t (text "sensor-sampling")) (sym (request-name t r e)) ∙ h
+
+other-name : (r : Request) → isSampling r ≡ false → same (nameFor r) (text "sensor-sampling") ≡ false
+unfolding requestNamed
+other-name ClientList h = row-other (text "client-list") ClientList refl refl
+other-name Halt h = row-other (text "halt") Halt refl refl
+other-name Help h = row-other (text "help") Help refl refl
+other-name LogLevel h = row-other (text "log-level") LogLevel refl refl
+other-name Restart h = row-other (text "restart") Restart refl refl
+other-name SensorList h = row-other (text "sensor-list") SensorList refl refl
+other-name SensorSampling h = absurd (true≢false h)
+other-name SensorValue h = row-other (text "sensor-value") SensorValue refl refl
+other-name VersionList h = row-other (text "version-list") VersionList refl refl
+other-name Watchdog h = row-other (text "watchdog") Watchdog refl refl
+
+module _ (sheet : Sheet) (s : State) (c : ℕ) (m : Message) (other : same (m .name) (text "sensor-sampling") ≡ false) where
+  informs-quiet : {A : Type 0} (f : A → Message) (xs : List A) → ((x : A) → news sheet (f x) ≡ Other) → Quiet sheet (Messages.countedAnswer c m (map f xs))
+  informs-quiet f xs k = counted-quiet sheet c m (map f xs) other (every (λ m. news sheet m ≡ Other) f xs k)
+
+  farewell-quiet : (why : List ℕ) (halted : Bool) (level : ℕ) → Quiet sheet (endConnections s c m why halted level .sent)
+  unfolding news
+  farewell-quiet why halted level = (reply-quiet sheet m (text "ok" ∷ []) other, where-quiet sheet (connected s) (Messages.disconnect why) refl)
+
+  by-request : (r : Request) → isSampling r ≡ false → Quiet sheet (answer sheet s c r m .sent)
+  unfolding answer news Messages.sensorInform Messages.valueInform
+  by-request ClientList h = informs-quiet (Messages.clientInform (m .id)) (addresses s) (λ x. refl)
+  by-request Halt h = farewell-quiet (text "Device halting.") true (s .level)
+  by-request Help h = informs-quiet (Messages.helpInform (m .id)) (helpNames m) (λ x. refl)
+  by-request LogLevel h = (reply-quiet sheet m (text "ok" ∷ Messages.levelText (levelAsked s m) ∷ []) other, tt)
+  by-request Restart h = farewell-quiet (text "Device restarting.") false startLevel
+  by-request SensorList h = informs-quiet (λ j. Messages.sensorInform (m .id) (sensorOf sheet j)) (askedPlaces sheet m) (λ x. refl)
+  by-request SensorSampling h = absurd (true≢false h)
+  by-request SensorValue h = informs-quiet (Messages.valueInform (m .id) s sheet) (askedPlaces sheet m) (λ x. refl)
+  by-request VersionList h = informs-quiet (Messages.versionInform (m .id)) (Messages.protocolArgs ∷ Messages.deviceArgs sheet ∷ []) (λ x. refl)
+  by-request Watchdog h = (reply-quiet sheet m (text "ok" ∷ []) other, tt)
+
+pub answer-quiet : (sheet : Sheet) (s : State) (c : ℕ) (r : Request) (m : Message) → m .name ≡ nameFor r → isSampling r ≡ false → Quiet sheet (answer sheet s c r m .sent)
+answer-quiet sheet s c r m e h = by-request sheet s c m (ap (λ t. same t (text "sensor-sampling")) e ∙ other-name r h) r h
+
+-- Refusals.
+
+-- "fail" and "invalid" are not "ok"
+code-not-ok : (n : ℕ) → same (Messages.refusalCode n) (text "ok") ≡ false
+code-not-ok n = go (eqb n 16 || (eqb n 18 || eqb n 23))
+  where
+    go : (b : Bool) → same (cond b (text "fail") (text "invalid")) (text "ok") ≡ false
+    go true = refl
+    go false = refl
+
+refused-quiet : (sheet : Sheet) (m : Message) (n : ℕ) → news sheet (Messages.refusalReply m n) ≡ Other
+unfolding news
+refused-quiet sheet m n = go (same (m .name) (text "sensor-sampling")) (same (Messages.refusalCode n) (text "ok")) (code-not-ok n)
+  where
+    go : (a b : Bool) → b ≡ false → cond (a && b) (samplingNews sheet (Messages.refusalReply m n)) Other ≡ Other
+    go true b e = cond-false b _ Other e
+    go false b e = refl
+
+asked-quiet : (sheet : Sheet) (clock c n : ℕ) (a : Asked) → Quiet sheet (lineRefusal clock c n a)
+unfolding lineRefusal news
+asked-quiet sheet clock c n Nothing = tt
+asked-quiet sheet clock c n NotMessage = (refl, tt)
+asked-quiet sheet clock c n Reply = (refl, tt)
+asked-quiet sheet clock c n (Unknown m) = (refused-quiet sheet m n, tt)
+asked-quiet sheet clock c n (Asks r m) = (refused-quiet sheet m n, tt)
+
+pub refusal-quiet : (sheet : Sheet) (s : State) (n : ℕ) (action : Action) → Quiet sheet (refusal s n action)
+unfolding refusal
+refusal-quiet sheet s n (Connect c address) = tt
+refusal-quiet sheet s n (Disconnect c) = tt
+refusal-quiet sheet s n (Tick t) = tt
+refusal-quiet sheet s n (Reading j r) = tt
+refusal-quiet sheet s n (Log level logger said) = tt
+refusal-quiet sheet s n (Line c line) = line-quiet (ltb n 12)
+  where
+    line-quiet : (b : Bool) → Quiet sheet (cond b [] (lineRefusal (s .clock) c n (asked line)))
+    line-quiet true = tt
+    line-quiet false = asked-quiet sheet (s .clock) c n (asked line)

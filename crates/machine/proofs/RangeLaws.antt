@@ -1,0 +1,63 @@
+-- The state check as facts, both ways.
+use Prim.Native.Nat.{ℕ, _≤_, _<_}
+use mathlib.Core.Path.{_≡_, sym, _∙_}
+use mathlib.Core.Bool.{true, cond, _||_}
+use lib.Dec.{leb, ltb}
+use borrow.Author.Tests.{leb-true, le-leb, lt-ltb}
+use Rattle.output.specs.Read.{inTime}
+use Rattle.machine.specs.declared.State.{State}
+use Rattle.machine.specs.Places.{allBelow}
+use Rattle.machine.specs.Sheet.{sensorOf, sensorsOk, titlesOk}
+use Rattle.machine.specs.State.{clientOf, storedOf, present}
+use Rattle.machine.specs.Range.{sampleOk, clientOk, storedOk, storedNone, storedOkAt, pairOkAt, isBlank, inRange}
+use Rattle.machine.proofs.TestLaws.{and-true, and-in, cond-true}
+use Rattle.machine.proofs.PlacesLaws.{below-at, below-of}
+
+pub record InRange (s : State) : Type 0 where
+  pub titles-in : (titlesOk (s .sheet) || isBlank s) ≡ true
+  pub sensors-in : sensorsOk (s .sheet) ≡ true
+  pub clock-in : s .clock ≤ 9999999999999
+  pub level-in : s .level ≤ 7
+  pub stored-in : (j : ℕ) → j < 32 → storedOkAt s j ≡ true
+  pub client-in : (c : ℕ) → c < 8 → clientOk (clientOf s c) ≡ true
+  pub pair-in : (p : ℕ) → p < 256 → pairOkAt s p ≡ true
+
+pub range-out : (s : State) → inRange s ≡ true → InRange s
+unfolding inRange
+range-out s h =
+    let a = and-true (titlesOk (s .sheet) || isBlank s) _ h in
+    let b = and-true (sensorsOk (s .sheet)) _ (a .1) in
+    let c = and-true (inTime (s .clock)) _ (b .1) in
+    let d = and-true (leb (s .level) 7) _ (c .1) in
+    let e = and-true (allBelow (storedOkAt s) 32) _ (d .1) in
+    let f = and-true (allBelow (λ c. clientOk (clientOf s c)) 8) (allBelow (pairOkAt s) 256) (e .1) in
+    record {
+      titles-in = a .0;
+      sensors-in = b .0;
+      clock-in = leb-true (s .clock) 9999999999999 (c .0);
+      level-in = leb-true (s .level) 7 (d .0);
+      stored-in = λ j k. below-at (storedOkAt s) 32 j (e .0) k;
+      client-in = λ c k. below-at (λ c. clientOk (clientOf s c)) 8 c (f .0) k;
+      pair-in = λ p k. below-at (pairOkAt s) 256 p (f .1) k;
+    }
+
+pub range-of : (s : State) → InRange s → inRange s ≡ true
+unfolding inRange
+range-of s r =
+    and-in (titlesOk (s .sheet) || isBlank s) _ (r .titles-in)
+    (and-in (sensorsOk (s .sheet)) _ (r .sensors-in)
+    (and-in (inTime (s .clock)) _ (le-leb (s .clock) 9999999999999 (r .clock-in))
+    (and-in (leb (s .level) 7) _ (le-leb (s .level) 7 (r .level-in))
+    (and-in (allBelow (storedOkAt s) 32) _ (below-of (storedOkAt s) 32 (r .stored-in))
+    (and-in (allBelow (λ c. clientOk (clientOf s c)) 8) (allBelow (pairOkAt s) 256) (below-of (λ c. clientOk (clientOf s c)) 8 (r .client-in)) (below-of (pairOkAt s) 256 (r .pair-in)))))))
+
+-- a sensor's reading is one that the sensor can have, at a time that is not after the clock
+pub stored-is : (s : State) → InRange s → (j : ℕ) → j < s .sheet .count → j < 32
+    → (sampleOk (sensorOf (s .sheet) j) (present s j) ≡ true) × (storedOf s j .time ≤ s .clock)
+unfolding storedOkAt storedOk
+stored-is s r j h k = let q = and-true (sampleOk (sensorOf (s .sheet) j) (present s j)) (leb (storedOf s j .time) (s .clock)) (there (r .stored-in j k)) in
+    (q .0, leb-true (storedOf s j .time) (s .clock) (q .1))
+  where
+    there : cond (ltb j (s .sheet .count)) (storedOk (s .clock) (sensorOf (s .sheet) j) (storedOf s j)) (storedNone (storedOf s j)) ≡ true
+        → storedOk (s .clock) (sensorOf (s .sheet) j) (storedOf s j) ≡ true
+    there t = sym (cond-true (ltb j (s .sheet .count)) (storedOk (s .clock) (sensorOf (s .sheet) j) (storedOf s j)) (storedNone (storedOf s j)) (lt-ltb j (s .sheet .count) h)) ∙ t

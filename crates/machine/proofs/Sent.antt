@@ -1,0 +1,210 @@
+-- All that a call sends: to clients below 8, every message well-formed, and together at most 65,536 bytes.
+use Prim.Native.Nat.{ℕ, suc, _/_, _%_, _≤_, _<_}
+use native.Mathlib.Omega.{arith}
+use mathlib.Core.Path.{_≡_, refl}
+use mathlib.Core.Bool.{Bool, true, false, cond, not, _&&_}
+use mathlib.Core.List.{List, [], _∷_, map}
+use lib.Dec.{eqb, leb, ltb}
+use lib.ListN.{length}
+use borrow.Author.Tests.{leb-true, ltb-false}
+use Rattle.output.specs.Text.{all}
+use Rattle.output.specs.Read.{inTime}
+use Rattle.message.specs.Message.{Message, write}
+use Rattle.message.specs.Delivery.{Delivery, packet, Short}
+use Rattle.line.specs.Line.{message, parse, WellFormed}
+use Rattle.line.proofs.ParsedHead.{parsed-head}
+use Rattle.line.proofs.ReadBack.{read-back}
+use Rattle.value.specs.declared.Sample.{Sample}
+use Rattle.machine.specs.declared.State.{State}
+use Rattle.machine.specs.declared.Cause.{Cause}
+use Rattle.machine.specs.declared.Cause.the-variants.{Tick as Ticked, Reading as Read}
+use Rattle.machine.specs.Places.{gather, Each}
+use Rattle.machine.specs.Sheet.{sensorOf, graphic, nameByte}
+use Rattle.machine.specs.State.{present, connected, pairAt, withClock, withReading}
+use Rattle.machine.specs.Range.{sampleOk, inRange}
+use Rattle.machine.specs.Messages.{clientConnected, logEntry, toAll}
+use Rattle.machine.specs.Report.{dueAt, pairSends, visit}
+use Rattle.machine.specs.Requests.{Asked, Nothing, NotMessage, Reply, Unknown, Asks, asked}
+use Rattle.machine.specs.Declined.{Action, Connect, Disconnect, Tick, Reading, Log, Line, Call, clientDeclined, addressFits, tickFits, entryFits, entryByte, lineDeclined, actionDeclined, declined, lineRefusal, refusal}
+use Rattle.machine.specs.Machine.{Effect, sampleGiven, connectSends, entries, lineWork, perform, step}
+use Rattle.machine.specs.Claims.{Fits, SentReadsBack}
+use Rattle.machine.proofs.TestLaws.{and-true, fitted}
+use Rattle.machine.proofs.PlacesLaws.{each-gather, each-one, each-weaker, gather-length}
+use Rattle.machine.proofs.StateLaws.{due-below}
+use Rattle.machine.proofs.SheetLaws.{Sensors}
+use Rattle.machine.proofs.RangeLaws.{InRange, range-out}
+use Rattle.machine.proofs.StepLaws.{by-cases, accepted, declined-in-range, client-fits, asks-is, unknown-is}
+use Rattle.machine.proofs.SampleRange.{given-fits, Reportable, reportable-tick, reportable-reading}
+use Rattle.machine.proofs.DeliveryLengths.{Served, served, length-line, Sendable, sendable, nothing-sent, one-sent, one-length, where-length, served-where}
+use Rattle.machine.proofs.SentSizes.{sound-protocol, sound-device, sound-newcomer, sound-entry, sound-report, sound-refusal, sound-refusal-entry}
+use Rattle.machine.proofs.SentAnswers.{sensors-of, titles-short, answer-sent}
+
+-- Reports of a visit.
+
+module _ (s : State) (cause : Cause) (r : Sensors (s .sheet)) (reports : Reportable s) where
+  pair-served : (p : ℕ) → p < 256 → Each (Served 200) (pairSends (s .sheet) s cause p)
+  unfolding pairSends
+  pair-served p h = each-one (Served 200) (dueAt (s .sheet) s cause (p / 32) (p % 32) (pairAt s p)) _ (λ e.
+      let l = due-below (s .sheet) s cause (p / 32) (p % 32) (pairAt s p) e in
+      served (omega arith) (sound-report (s .clock) (sensorOf (s .sheet) (p % 32)) (present s (p % 32)) (reports .clock-fits) (r .sensor-is (p % 32) l) (reports .present-fits (p % 32) l)))
+
+  visit-sent : Sendable (visit (s .sheet) s cause .sent)
+  unfolding pairSends
+  visit-sent = sendable 256 200 (gather (pairSends (s .sheet) s cause) 256) (omega arith) (omega arith)
+      (gather-length (pairSends (s .sheet) s cause) 1 256 (λ p. one-length (dueAt (s .sheet) s cause (p / 32) (p % 32) _) _))
+      (each-gather (Served 200) (pairSends (s .sheet) s cause) 256 pair-served)
+
+-- A call that is carried out.
+
+address-most : (address : List ℕ) → addressFits address ≡ true → length address ≤ 48
+unfolding addressFits
+address-most address h = leb-true (length address) 48 (and-true (leb (length address) 48) (all graphic address) (and-true (leb 1 (length address)) _ h .1) .0)
+
+entry-most : (level : ℕ) (logger said : List ℕ) → entryFits level logger said ≡ true → (length logger ≤ 32) × (length said ≤ 256)
+unfolding entryFits
+entry-most level logger said h =
+    let a = and-true (leb 1 level && leb level 6) _ h in
+    let b = and-true (leb 1 (length logger) && (leb (length logger) 32 && all nameByte logger)) (leb (length said) 256 && all entryByte said) (a .1) in
+    let c = and-true (leb 1 (length logger)) (leb (length logger) 32 && all nameByte logger) (b .0) in
+    (leb-true (length logger) 32 (and-true (leb (length logger) 32) (all nameByte logger) (c .1) .0), leb-true (length said) 256 (and-true (leb (length said) 256) (all entryByte said) (b .1) .0))
+
+module _ (s : State) (g : InRange s) where
+  connect-sent : (c : ℕ) (address : List ℕ) → actionDeclined (s .sheet) s (Connect c address) ≡ 0 → Sendable (connectSends (s .sheet) s c address)
+  unfolding actionDeclined connectSends
+  connect-sent c address h =
+      let a = client-fits (connected s c) c _ h in
+      let b = fitted (addressFits address) 7 0 (omega arith) (a .1 .1) in
+      let t = titles-short s g in
+      let others : ℕ → Bool = λ k. connected s k && not (eqb k c) in
+      sendable 10 1300 _ (omega arith) (omega arith) (omega (arith, where-length others (clientConnected address))) (
+        served (a .0) sound-protocol,
+        (
+          served (a .0) (sound-device (s .sheet) (t .0) (t .1)),
+          served-where 1300 others (clientConnected address) (sound-newcomer address (address-most address (b .0))),
+        ),
+      )
+
+  tick-sent : (t : ℕ) → actionDeclined (s .sheet) s (Tick t) ≡ 0 → Sendable (visit (s .sheet) (withClock s t) Ticked .sent)
+  unfolding actionDeclined tickFits
+  tick-sent t h =
+      let a = fitted (leb (s .clock) t && inTime t) 8 0 (omega arith) h in
+      visit-sent (withClock s t) Ticked (sensors-of s g) (reportable-tick s g t (leb-true t 9999999999999 (and-true (leb (s .clock) t) (inTime t) (a .0) .1)))
+
+  reading-sent : (j : ℕ) (x : Sample) → sampleOk (sensorOf (s .sheet) j) x ≡ true → Sendable (visit (s .sheet) (withReading s j x) (Read j) .sent)
+  unfolding withReading
+  reading-sent j x h = visit-sent (withReading s j x) (Read j) (sensors-of s g) (reportable-reading s g j x h)
+
+  log-sent : (level : ℕ) (logger said : List ℕ) → actionDeclined (s .sheet) s (Log level logger said) ≡ 0 → Sendable (entries s level logger said)
+  unfolding actionDeclined entries
+  log-sent level logger said h = go (leb level (s .level))
+    where
+      entry : Message
+      entry = logEntry level (s .clock) logger said
+
+      most : (length logger ≤ 32) × (length said ≤ 256)
+      most = entry-most level logger said (fitted (entryFits level logger said) 11 0 (omega arith) h .0)
+
+      go : (b : Bool) → Sendable (cond b (toAll s entry) [])
+      go true = sendable 8 1300 (toAll s entry) (omega arith) (omega arith) (where-length (connected s) entry)
+          (served-where 1300 (connected s) entry (sound-entry level (s .clock) logger said (g .clock-in) (most .0) (most .1)))
+      go false = nothing-sent
+
+  line-sent : (c : ℕ) (line : List ℕ) → actionDeclined (s .sheet) s (Line c line) ≡ 0 → Sendable (lineWork (s .sheet) s c (asked line) .sent)
+  unfolding actionDeclined lineWork
+  line-sent c line h = go (asked line) refl (a .1 .1)
+    where
+      a : (c < 8) × ((not (connected s c) ≡ false) × (lineDeclined (s .sheet) (asked line) ≡ 0))
+      a = client-fits (not (connected s c)) c (lineDeclined (s .sheet) (asked line)) h
+
+      go : (q : Asked) → asked line ≡ q → lineDeclined (s .sheet) q ≡ 0 → Sendable (lineWork (s .sheet) s c q .sent)
+      go Nothing e k = nothing-sent
+      go NotMessage e k = nothing-sent
+      go Reply e k = nothing-sent
+      go (Unknown m) e k = nothing-sent
+      go (Asks q m) e k = answer-sent s g c (a .0) m (parsed-head line m (asks-is line q m e .parsed)) q k
+
+  perform-sent : (action : Action) → actionDeclined (s .sheet) s action ≡ 0 → Sendable (perform (s .sheet) s action .sent)
+  unfolding perform
+  perform-sent (Connect c address) h = connect-sent c address h
+  perform-sent (Disconnect c) h = nothing-sent
+  perform-sent (Tick t) h = tick-sent t h
+  perform-sent (Reading j r) h = reading-sent j (sampleGiven (sensorOf (s .sheet) j) r) (given-fits (sensorOf (s .sheet) j) r)
+  perform-sent (Log level logger said) h = log-sent level logger said h
+  perform-sent (Line c line) h = line-sent c line h
+
+-- A call that is declined.
+
+-- a row that did not decline, before the one that did
+beyond : (b : Bool) (k m n : ℕ) → k < n → cond b k m ≡ n → m ≡ n
+beyond true k m n h e = absurd (omega arith)
+beyond false k m n h e = e
+
+-- from row 12 on, the action's own rows decline
+action-declines : (s : State) (call : Call) (n : ℕ) → declined (s .sheet) s call ≡ n → 12 ≤ n → actionDeclined (s .sheet) s (call .action) ≡ n
+unfolding declined
+action-declines s call n e h =
+    beyond (s .halted) 3 _ n (omega arith) (beyond (ltb (length (call .lent)) 65536) 2 _ n (omega arith) (beyond (not (inRange s)) 1 _ n (omega arith) e))
+
+client-below : (refused : Bool) (c rest n : ℕ) → clientDeclined refused c rest ≡ n → 12 ≤ n → c < 8
+unfolding clientDeclined
+client-below refused c rest n e h = go (ltb 7 c) refl e
+  where
+    go : (b : Bool) → ltb 7 c ≡ b → cond b 5 (cond refused 6 rest) ≡ n → c < 8
+    go true l k = absurd (omega arith)
+    go false l k = omega (arith, ltb-false 7 c l)
+
+line-refused : (s : State) → InRange s → (c n : ℕ) (line : List ℕ) → c < 8 → Sendable (lineRefusal (s .clock) c n (asked line))
+unfolding lineRefusal
+line-refused s g c n line h = go (asked line) refl
+  where
+    go : (q : Asked) → asked line ≡ q → Sendable (lineRefusal (s .clock) c n q)
+    go Nothing e = nothing-sent
+    go NotMessage e = one-sent _ (served h (sound-refusal-entry (s .clock) n (g .clock-in)))
+    go Reply e = one-sent _ (served h (sound-refusal-entry (s .clock) n (g .clock-in)))
+    go (Unknown m) e = one-sent _ (served h (sound-refusal m (parsed-head line m (unknown-is line m e .parsed)) n))
+    go (Asks q m) e = one-sent _ (served h (sound-refusal m (parsed-head line m (asks-is line q m e .parsed)) n))
+
+refusal-sent : (s : State) (n : ℕ) (action : Action) → (12 ≤ n → (inRange s ≡ true) × (actionDeclined (s .sheet) s action ≡ n)) → Sendable (refusal s n action)
+unfolding refusal actionDeclined
+refusal-sent s n (Connect c address) h = nothing-sent
+refusal-sent s n (Disconnect c) h = nothing-sent
+refusal-sent s n (Tick t) h = nothing-sent
+refusal-sent s n (Reading j r) h = nothing-sent
+refusal-sent s n (Log level logger said) h = nothing-sent
+refusal-sent s n (Line c line) h = go (ltb n 12) refl
+  where
+    go : (b : Bool) → ltb n 12 ≡ b → Sendable (cond b [] (lineRefusal (s .clock) c n (asked line)))
+    go true e = nothing-sent
+    go false e =
+        let k = ltb-false n 12 e in
+        line-refused s (range-out s (h k .0)) c n line (client-below (not (connected s c)) c (lineDeclined (s .sheet) (asked line)) n (h k .1) k)
+
+-- Every call.
+
+step-sent : (s : State) (call : Call) → Sendable (step s call .sent)
+step-sent s call = by-cases (λ (e : Effect). Sendable (e .sent)) s call
+    (λ e. let a = accepted s call e in perform-sent s (range-out s (a .in-range)) (call .action) (a .fits))
+    (λ n e. refusal-sent s (suc n) (call .action) (λ h. (declined-in-range s call n e (omega arith), action-declines s call (suc n) e h)))
+
+well-formed : (d : Delivery) → Served 2048 d → WellFormed (d .message)
+well-formed d h = record { kind = h .sound .kind; letters = h .sound .letters; name = h .sound .name; id = h .sound .id; fits = h .sound .length-most }
+
+pub sent-well-formed : (s : State) (call : Call) → Each (λ (d : Delivery). WellFormed (d .message)) (step s call .sent)
+sent-well-formed s call = each-weaker (Served 2048) (λ (d : Delivery). WellFormed (d .message)) well-formed (step s call .sent) (step-sent s call .all-served)
+
+pub sent-clients : (s : State) (call : Call) → Each (λ (d : Delivery). d .client < 8) (step s call .sent)
+sent-clients s call = each-weaker (Served 2048) (λ (d : Delivery). d .client < 8) (λ d h. h .client-below) (step s call .sent) (step-sent s call .all-served)
+
+short : (ds : List Delivery) → Each (Served 2048) ds → Short (map packet ds)
+short [] h = tt
+short (d ∷ ds) h = (omega (arith, length-line (d .message), h .0 .sound .length-most), short ds (h .1))
+
+pub sent-short : (s : State) (call : Call) → Short (map packet (step s call .sent))
+sent-short s call = short (step s call .sent) (step-sent s call .all-served)
+
+pub fits : Fits
+fits s call = (step-sent s call .size, each-weaker (Served 2048) (λ (d : Delivery). length (write (d .message)) ≤ 2048) (λ d h. h .sound .length-most) (step s call .sent) (step-sent s call .all-served))
+
+pub sent-reads-back : SentReadsBack
+sent-reads-back s call = each-weaker (λ (d : Delivery). WellFormed (d .message)) (λ (d : Delivery). WellFormed (d .message) × (parse (write (d .message)) ≡ message (d .message)))
+    (λ d h. (h, read-back (d .message) h)) (step s call .sent) (sent-well-formed s call)

@@ -1,0 +1,65 @@
+-- The subscription of a client to a sensor, after each way of writing the state anew.
+use Prim.Native.Nat.{ℕ, _+_, _*_, _/_, _%_, _<_}
+use native.Mathlib.Omega.{arith}
+use mathlib.Core.Path.{_≡_, refl, _∙_}
+use mathlib.Core.Bool.{true, false, cond, _&&_}
+use mathlib.Core.List.{List}
+use lib.Dec.{eqb, ltb}
+use lib.ListN.{getD, replicate}
+use borrow.Author.Tests.{ltb-true}
+use Rattle.machine.specs.declared.Strategy.{Strategy}
+use Rattle.machine.specs.declared.Client.{Client}
+use Rattle.machine.specs.declared.Subscription.{Subscription}
+use Rattle.machine.specs.declared.Sheet.{Sheet}
+use Rattle.machine.specs.declared.State.{State}
+use Rattle.machine.specs.declared.Cause.{Cause}
+use Rattle.value.specs.declared.Sample.{Sample}
+use Rattle.machine.specs.Places.{tabulate, has}
+use Rattle.machine.specs.State.{clientOf, connected, pairOf, present, storedOf, noSubscription, noStored, noClient, blankClient, withClient, withReading}
+use Rattle.machine.specs.Report.{dueAt, pairAfter, reported}
+use Rattle.machine.specs.Requests.{sampled, sampledPairs}
+use Rattle.machine.proofs.TestLaws.{and-true}
+use Rattle.machine.proofs.PlacesLaws.{getD-tabulate, replicate-either}
+
+pub place-client : (a j : ℕ) → j < 32 → (a * 32 + j) / 32 ≡ a
+place-client a j h = omega arith
+
+pub place-sensor : (a j : ℕ) → j < 32 → (a * 32 + j) % 32 ≡ j
+place-sensor a j h = omega arith
+
+module _ (s : State) (a j : ℕ) (ha : a < 8) (hj : j < 32) where
+  at-pair : (f : ℕ → Subscription) → getD (tabulate f 256) (a * 32 + j) noSubscription ≡ f (a * 32 + j)
+  at-pair f = getD-tabulate f 256 (a * 32 + j) noSubscription (omega arith)
+
+  -- after a visit
+  pub pair-visited : (sheet : Sheet) (cause : Cause) → getD (tabulate (pairAfter sheet s cause) 256) (a * 32 + j) noSubscription
+      ≡ cond (dueAt sheet s cause a j (pairOf s a j)) (reported (s .clock) (present s j) (pairOf s a j)) (pairOf s a j)
+  unfolding pairAfter
+  pair-visited sheet cause = at-pair (pairAfter sheet s cause) ∙ rw (place-client a j hj, place-sensor a j hj)
+
+  -- after a sampling
+  pub pair-sampled : (c : ℕ) (js : List ℕ) (st : Strategy) → getD (sampledPairs s c js st) (a * 32 + j) noSubscription
+      ≡ cond (eqb a c && has j js) (sampled (s .clock) (present s j) st (pairOf s a j)) (pairOf s a j)
+  unfolding sampledPairs
+  pair-sampled c js st = at-pair _ ∙ rw (place-client a j hj, place-sensor a j hj)
+
+  -- after a connect or a disconnect
+  pub pair-of-client : (c : ℕ) (k : Client) → pairOf (withClient s c k) a j ≡ cond (eqb a c) noSubscription (pairOf s a j)
+  unfolding withClient
+  pair-of-client c k = at-pair _ ∙ rw (place-client a j hj)
+
+pub client-after : (s : State) (c a : ℕ) (k : Client) → a < 8 → clientOf (withClient s c k) a ≡ cond (eqb a c) k (clientOf s a)
+unfolding withClient
+client-after s c a k ha = getD-tabulate _ 8 a noClient ha
+
+pub stored-after : (s : State) (j i : ℕ) (x : Sample) → i < 32 → storedOf (withReading s j x) i ≡ cond (eqb i j) (record { sample = x; time = s .clock }) (storedOf s i)
+unfolding withReading
+stored-after s j i x hi = getD-tabulate _ 32 i noStored hi
+
+pub nobody-there : (a : ℕ) → getD (replicate 8 blankClient) a noClient .connected ≡ false
+nobody-there a = replicate-either (λ (k : Client). k .connected ≡ false) 8 a blankClient noClient refl refl
+
+-- a pair that reports is one of a sensor on the sheet
+pub due-below : (sheet : Sheet) (s : State) (cause : Cause) (c j : ℕ) (p : Subscription) → dueAt sheet s cause c j p ≡ true → j < sheet .count
+unfolding dueAt
+due-below sheet s cause c j p h = ltb-true j (sheet .count) (and-true (ltb j (sheet .count)) _ (and-true (connected s c) _ h .1) .0)

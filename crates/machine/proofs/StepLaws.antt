@@ -1,0 +1,187 @@
+-- A call is carried out or declined; what is known of one that is carried out; what a line asks.
+use Prim.Native.Nat.{ℕ, zero, suc, _≤_, _<_}
+use Prim.Native.Char.{code}
+use native.Mathlib.Omega.{arith}
+use mathlib.Core.Path.{_≡_, refl, ap, sym, _∙_, subst}
+use mathlib.Core.Bool.{Bool, true, false, cond, not, _||_, true≢false}
+use mathlib.Core.List.{List}
+use mathlib.Core.Option.{Option, none, some}
+use lib.Dec.{eqb, ltb}
+use lib.ListN.{length}
+use borrow.Author.Tests.{ltb-false, eqb-true, not-false}
+use Rattle.output.specs.Text.{text, same}
+use Rattle.output.proofs.TextLaws.{same-true}
+use Rattle.message.specs.Message.{Message}
+use Rattle.line.specs.Line.{Parse, malformed, message, kindByte, parse, blankLine}
+use Rattle.line.proofs.ParsedHead.{parsed-head, blank-parse}
+use Rattle.machine.specs.declared.State.{State}
+use Rattle.machine.specs.declared.Request.{Request}
+use Rattle.machine.specs.declared.Request.the-variants.{ClientList, Halt, Help, LogLevel, Restart, SensorList, SensorSampling, SensorValue, VersionList, Watchdog}
+use Rattle.machine.specs.Range.{inRange}
+use Rattle.machine.specs.Requests.{Asked, Nothing, NotMessage, Reply, Unknown, Asks, asked, askedBy, askedFor, requestNamed}
+use Rattle.machine.specs.Declined.{Call, clientDeclined, actionDeclined, declined}
+use Rattle.machine.specs.Machine.{Effect, done, left, outcome, perform, step}
+use Rattle.machine.proofs.TestLaws.{passed, or-true}
+
+-- every fact of a call splits here
+pub by-cases : (P : Effect → Type 0) (s : State) (call : Call)
+    → (declined (s .sheet) s call ≡ 0 → P (done (perform (s .sheet) s (call .action))))
+    → ((n : ℕ) → declined (s .sheet) s call ≡ suc n → P (left s (suc n) (call .action)))
+    → P (step s call)
+unfolding outcome
+by-cases P s call yes-case no-case = go (declined (s .sheet) s call) refl
+  where
+    go : (n : ℕ) → declined (s .sheet) s call ≡ n → P (outcome (s .sheet) s (call .action) n)
+    go zero e = yes-case e
+    go (suc n) e = no-case n e
+
+-- a call that nothing declines: a state in range, an output of the size, a device that is not halted, and its own rows
+pub record Accepted (s : State) (call : Call) : Type 0 where
+  pub in-range : inRange s ≡ true
+  pub room : 65536 ≤ length (call .lent)
+  pub running : s .halted ≡ false
+  pub fits : actionDeclined (s .sheet) s (call .action) ≡ 0
+
+pub accepted : (s : State) (call : Call) → declined (s .sheet) s call ≡ 0 → Accepted s call
+unfolding declined
+accepted s call e =
+    let a = passed (not (inRange s)) 1 _ (omega arith) e in
+    let b = passed (ltb (length (call .lent)) 65536) 2 _ (omega arith) (a .1) in
+    let c = passed (s .halted) 3 (actionDeclined (s .sheet) s (call .action)) (omega arith) (b .1) in
+    record { in-range = not-false (inRange s) (a .0); room = ltb-false (length (call .lent)) 65536 (b .0); running = c .0; fits = c .1 }
+
+-- a call that is declined with a number above 1: the state is in range too
+pub declined-in-range : (s : State) (call : Call) (n : ℕ) → declined (s .sheet) s call ≡ suc n → 1 ≤ n → inRange s ≡ true
+unfolding declined
+declined-in-range s call n e h = go (inRange s) refl
+  where
+    go : (b : Bool) → inRange s ≡ b → inRange s ≡ true
+    go true q = q
+    go false q = absurd (omega (arith, one q))
+      where
+        one : inRange s ≡ false → 1 ≡ suc n
+        one q = rw (← e) (ap (λ b. cond (not b) 1 (cond (ltb (length (call .lent)) 65536) 2 (cond (s .halted) 3 (actionDeclined (s .sheet) s (call .action))))) (sym q))
+
+-- rows 5 and 6 passed
+pub client-fits : (refused : Bool) (c rest : ℕ) → clientDeclined refused c rest ≡ 0 → (c < 8) × ((refused ≡ false) × (rest ≡ 0))
+unfolding clientDeclined
+client-fits refused c rest e =
+    let a = passed (ltb 7 c) 5 _ (omega arith) e in
+    let b = passed refused 6 rest (omega arith) (a .1) in
+    (omega (arith, ltb-false 7 c (a .0)), (b .0, b .1))
+
+-- the name of a request in the table
+abbrev pub nameFor : Request → List ℕ
+nameFor ClientList = text "client-list"
+nameFor Halt = text "halt"
+nameFor Help = text "help"
+nameFor LogLevel = text "log-level"
+nameFor Restart = text "restart"
+nameFor SensorList = text "sensor-list"
+nameFor SensorSampling = text "sensor-sampling"
+nameFor SensorValue = text "sensor-value"
+nameFor VersionList = text "version-list"
+nameFor Watchdog = text "watchdog"
+
+abbrev Named : List ℕ → Option Request → Type 0
+Named name none = Unit
+Named name (some r) = name ≡ nameFor r
+
+row-named : (name : List ℕ) (t : List ℕ) (r : Request) (rest : Option Request) → nameFor r ≡ t → Named name rest → Named name (cond (same t name) (some r) rest)
+row-named name t r rest e h = go (same t name) refl
+  where
+    go : (b : Bool) → same t name ≡ b → Named name (cond b (some r) rest)
+    go true q = sym (e ∙ same-true t name q)
+    go false q = h
+
+-- the table finds a request by its own name alone
+named : (name : List ℕ) → Named name (requestNamed name)
+unfolding requestNamed
+named name =
+    row-named name (text "client-list") ClientList _ refl
+    (row-named name (text "halt") Halt _ refl
+    (row-named name (text "help") Help _ refl
+    (row-named name (text "log-level") LogLevel _ refl
+    (row-named name (text "restart") Restart _ refl
+    (row-named name (text "sensor-list") SensorList _ refl
+    (row-named name (text "sensor-sampling") SensorSampling _ refl
+    (row-named name (text "sensor-value") SensorValue _ refl
+    (row-named name (text "version-list") VersionList _ refl
+    (row-named name (text "watchdog") Watchdog none refl tt)))))))))
+
+pub request-name : (name : List ℕ) (r : Request) → requestNamed name ≡ some r → name ≡ nameFor r
+request-name name r e = subst (Named name) e (named name)
+
+pub request-found : (r : Request) → requestNamed (nameFor r) ≡ some r
+unfolding requestNamed
+request-found ClientList = refl
+request-found Halt = refl
+request-found Help = refl
+request-found LogLevel = refl
+request-found Restart = refl
+request-found SensorList = refl
+request-found SensorSampling = refl
+request-found SensorValue = refl
+request-found VersionList = refl
+request-found Watchdog = refl
+
+-- what a line that asks a request is
+pub record IsRequest (line : List ℕ) (r : Request) (m : Message) : Type 0 where
+  pub parsed : parse line ≡ message m
+  pub asks : m .kind ≡ code "?"
+  pub named : m .name ≡ nameFor r
+
+-- what a line that asks for an unknown one is
+pub record IsUnknown (line : List ℕ) (m : Message) : Type 0 where
+  pub parsed : parse line ≡ message m
+  pub asks : m .kind ≡ code "?"
+
+abbrev Meant : List ℕ → Asked → Type 0
+Meant line Nothing = Unit
+Meant line NotMessage = Unit
+Meant line Reply = Unit
+Meant line (Unknown m) = IsUnknown line m
+Meant line (Asks r m) = IsRequest line r m
+
+pub other-kind : (k : ℕ) → kindByte k ≡ true → eqb k (code "#") ≡ false → eqb k (code "!") ≡ false → k ≡ code "?"
+unfolding kindByte
+other-kind k h p q = or-true (k ≡ code "?") (eqb k (code "?")) (eqb k (code "!") || eqb k (code "#")) h (λ e. eqb-true k (code "?") e)
+    (λ e. absurd (true≢false (sym e ∙ rw (p, q))))
+
+meant : (line : List ℕ) → Meant line (asked line)
+unfolding asked
+meant line = go (blankLine line) (parse line) refl
+  where
+    by-name : (m : Message) → parse line ≡ message m → m .kind ≡ code "?" → (o : Option Request) → Named (m .name) o → Meant line (askedFor o m)
+    by-name m e k none n = record { parsed = e; asks = k }
+    by-name m e k (some r) n = record { parsed = e; asks = k; named = n }
+
+    by-kind : (m : Message) → parse line ≡ message m → (a b : Bool) → eqb (m .kind) (code "#") ≡ a → eqb (m .kind) (code "!") ≡ b
+        → Meant line (cond a Nothing (cond b Reply (askedFor (requestNamed (m .name)) m)))
+    by-kind m e true b p q = tt
+    by-kind m e false true p q = tt
+    by-kind m e false false p q = by-name m e (other-kind (m .kind) (parsed-head line m e .kind) p q) (requestNamed (m .name)) (named (m .name))
+
+    go : (b : Bool) (p : Parse) → parse line ≡ p → Meant line (cond b Nothing (askedBy p))
+    go true p e = tt
+    go false malformed e = tt
+    go false (message m) e = by-kind m e (eqb (m .kind) (code "#")) (eqb (m .kind) (code "!")) refl refl
+
+pub asks-is : (line : List ℕ) (r : Request) (m : Message) → asked line ≡ Asks r m → IsRequest line r m
+asks-is line r m e = subst (Meant line) e (meant line)
+
+pub unknown-is : (line : List ℕ) (m : Message) → asked line ≡ Unknown m → IsUnknown line m
+unknown-is line m e = subst (Meant line) e (meant line)
+
+abbrev isMessage : Parse → Bool
+isMessage malformed = false
+isMessage (message m) = true
+
+-- the other way: a request of a name that is in the table is asked
+pub request-asked : (line : List ℕ) (m : Message) → parse line ≡ message m → m .kind ≡ code "?" → asked line ≡ askedFor (requestNamed (m .name)) m
+unfolding asked
+request-asked line m e k = go (blankLine line) refl
+  where
+    go : (b : Bool) → blankLine line ≡ b → cond b Nothing (askedBy (parse line)) ≡ askedFor (requestNamed (m .name)) m
+    go true q = absurd (true≢false (ap isMessage (sym e ∙ blank-parse line q)))
+    go false q = rw (e, k)
