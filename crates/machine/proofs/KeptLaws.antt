@@ -16,14 +16,13 @@ use Rattle.machine.specs.declared.Sheet.{Sheet}
 use Rattle.machine.specs.declared.Strategy.{Strategy}
 use Rattle.machine.specs.declared.Subscription.{Subscription}
 use Rattle.machine.specs.declared.State.{State}
-use Rattle.machine.specs.declared.Client.{Client}
 use Rattle.machine.specs.declared.Request.{Request}
 use Rattle.machine.specs.declared.Cause.{Cause}
 use Rattle.machine.specs.declared.Request.the-variants.{ClientList, Halt, Help, LogLevel, Restart, SensorList, SensorSampling, SensorValue, VersionList, Watchdog}
 use Rattle.machine.specs.declared.Cause.the-variants.{Tick as Ticked, Reading as Read}
 use Rattle.machine.specs.Places.{any, has, Each}
 use Rattle.machine.specs.Sheet.{sensorOf}
-use Rattle.machine.specs.State.{present, clientOf, connected, pairOf, withPairs, withClock, withReading, withClient, clientAt, blankClient, noSubscription}
+use Rattle.machine.specs.State.{present, connected, pairOf, withPairs, withClock, withReading, withClient, clientAt, blankClient}
 use Rattle.machine.specs.Range.{isNone}
 use Rattle.machine.specs.Messages.{reportOf, samplingReply}
 use Rattle.machine.specs.Report.{Work, visit, dueAt, reported}
@@ -33,8 +32,8 @@ use Rattle.machine.specs.Declined.{Action, Connect, Disconnect, Tick, Re
 use Rattle.machine.specs.Machine.{perform, lineWork, sampleGiven}
 use Rattle.machine.specs.Reader.{View, news, SetTo, viewAfter, viewOf, standing}
 use Rattle.machine.specs.TwoDevices.{isConnect}
-use Rattle.machine.proofs.TestLaws.{cond-either, cond-cases, and-true, cond-true, cond-false, passed, fitted, eqb-sym}
-use Rattle.machine.proofs.StateLaws.{pair-visited, pair-sampled, pair-of-client, client-after, nobody-there}
+use Rattle.machine.proofs.TestLaws.{cond-either, cond-cases, and-true, passed, fitted, eqb-sym}
+use Rattle.machine.proofs.StateLaws.{pair-visited, pair-sampled, nobody-there, other-client, own-client, other-pair}
 use Rattle.machine.proofs.SheetLaws.{places-below}
 use Rattle.machine.proofs.RangeLaws.{InRange}
 use Rattle.machine.proofs.StepLaws.{client-fits, asks-is, nameFor}
@@ -189,16 +188,6 @@ module _ (s : State) (r : InRange s) (a j : ℕ) (ha : a < 8) (hj : j < 32) wher
       go (Unknown m) e on z = record { before = on; heard-is = sym (heard-none (s .sheet) a j _) }
       go (Asks r m) e on z = answer-kept c r m (fits .0) (asks-is line r m e .named) (passed (not (countFits r (length (m .args)))) 15 (argumentsDeclined (s .sheet) r m) (omega arith) z .1) on
 
-  -- another client's place
-  pub other-client : (c : ℕ) (k : Client) → eqb c a ≡ false → connected (withClient s c k) a ≡ connected s a
-  other-client c k e = ap (λ (k : Client). k .connected) (client-after s c a k ha ∙ cond-false (eqb a c) k (clientOf s a) (eqb-sym a c ∙ e))
-
-  pub other-pair : (c : ℕ) (k : Client) → eqb c a ≡ false → pairOf (withClient s c k) a j ≡ pairOf s a j
-  other-pair c k e = pair-of-client s a j ha hj c k ∙ cond-false (eqb a c) noSubscription (pairOf s a j) (eqb-sym a c ∙ e)
-
-  pub own-client : (c : ℕ) (k : Client) → eqb c a ≡ true → connected (withClient s c k) a ≡ k .connected
-  own-client c k e = ap (λ (k : Client). k .connected) (client-after s c a k ha ∙ cond-true (eqb a c) k (clientOf s a) (eqb-sym a c ∙ e))
-
   reading-kept : (k : ℕ) (g : Given) → connected s a ≡ true → Kept (s .sheet) s (visit (s .sheet) (withReading s k (sampleGiven (sensorOf (s .sheet) k) g)) (Read k)) a j
   unfolding withReading
   reading-kept k g on =
@@ -216,14 +205,14 @@ module _ (s : State) (r : InRange s) (a j : ℕ) (ha : a < 8) (hj : j < 32) wher
       → Kept (s .sheet) s (perform (s .sheet) s action) a j
   unfolding perform actionDeclined withReading
   perform-kept (Connect c address) d n on = record {
-    before = sym (other-client c (clientAt address) n) ∙ on;
-    heard-is = ap (viewOf (sensorOf (s .sheet) j)) (other-pair c (clientAt address) n) ∙ sym (quiet-heard (s .sheet) a j _ _ (connect-sends-quiet (s .sheet) s c address));
+    before = sym (other-client s a ha c (clientAt address) n) ∙ on;
+    heard-is = ap (viewOf (sensorOf (s .sheet) j)) (other-pair s a j ha hj c (clientAt address) n) ∙ sym (quiet-heard (s .sheet) a j _ _ (connect-sends-quiet (s .sheet) s c address));
   }
   perform-kept (Disconnect c) d n on = go (eqb c a) refl
     where
       go : (b : Bool) → eqb c a ≡ b → Kept (s .sheet) s (record { sent = []; next = withClient s c blankClient }) a j
-      go true e = absurd (true≢false (sym on ∙ own-client c blankClient e))
-      go false e = record { before = sym (other-client c blankClient e) ∙ on; heard-is = ap (viewOf (sensorOf (s .sheet) j)) (other-pair c blankClient e) ∙ sym (heard-none (s .sheet) a j _) }
+      go true e = absurd (true≢false (sym on ∙ own-client s a ha c blankClient e))
+      go false e = record { before = sym (other-client s a ha c blankClient e) ∙ on; heard-is = ap (viewOf (sensorOf (s .sheet) j)) (other-pair s a j ha hj c blankClient e) ∙ sym (heard-none (s .sheet) a j _) }
   perform-kept (Tick t) d n on = tick-kept t (fitted (tickFits s t) 8 0 (omega arith) d .0) on
   perform-kept (Reading k g) d n on = reading-kept k g on
   perform-kept (Log level logger said) d n on = record { before = on; heard-is = sym (quiet-heard (s .sheet) a j _ _ (entries-quiet (s .sheet) s level logger said)) }

@@ -8,17 +8,16 @@ use lib.ListN.{length}
 use Rattle.output.specs.Text.{same}
 use Rattle.message.specs.Message.{Message}
 use Rattle.machine.specs.declared.State.{State}
-use Rattle.machine.specs.declared.Client.{Client}
 use Rattle.machine.specs.declared.Request.{Request}
 use Rattle.machine.specs.declared.Request.the-variants.{ClientList, Halt, Help, LogLevel, Restart, SensorList, SensorSampling, SensorValue, VersionList, Watchdog}
-use Rattle.machine.specs.State.{connected, clientOf, withLevel, withPairs, withClient, withReading, emptied}
+use Rattle.machine.specs.State.{connected, withLevel, withPairs, withClient, withReading, emptied}
 use Rattle.machine.specs.Report.{Work}
 use Rattle.machine.specs.Requests.{Asked, Nothing, NotMessage, Reply, Unknown, Asks, asked, listed, strategyAsked, sampledPairs, sampling, answer}
 use Rattle.machine.specs.Declined.{Action, Connect, Disconnect, Tick, Reading, Log, Line}
 use Rattle.machine.specs.Machine.{perform, lineWork}
 use Rattle.machine.specs.TwoDevices.{isConnect, isDisconnect, clockBy}
-use Rattle.machine.proofs.TestLaws.{cond-cases, cond-ap, eqb-sym}
-use Rattle.machine.proofs.StateLaws.{client-after, nobody-there}
+use Rattle.machine.proofs.TestLaws.{cond-cases}
+use Rattle.machine.proofs.StateLaws.{client-connected, nobody-there}
 use Rattle.machine.proofs.StepLaws.{nameFor}
 use Rattle.machine.proofs.KeptLaws.{sampling-clients}
 use Rattle.machine.proofs.AnsweredLaws.{asksFor}
@@ -97,14 +96,10 @@ answer-connected s a c VersionList m = refl
 answer-connected s a c Watchdog m = refl
 
 module _ (s : State) (a : ℕ) (ha : a < 8) where
-  -- client c's place written anew
-  put-connected : (c : ℕ) (k : Client) → connected (withClient s c k) a ≡ cond (eqb c a) (k .connected) (connected s a)
-  put-connected c k = ap (λ (k : Client). k .connected) (client-after s c a k ha) ∙ (cond-ap (λ (k : Client). k .connected) (eqb a c) k (clientOf s a) ∙ ap (λ b. cond b (k .connected) (connected s a)) (eqb-sym a c))
-
   pub perform-connected : (action : Action) → connected (perform (s .sheet) s action .next) a ≡ cond (isConnect a action) true (cond (isDisconnect a action || endsConnections action) false (connected s a))
   unfolding perform withReading lineWork
-  perform-connected (Connect c address) = put-connected c _
-  perform-connected (Disconnect c) = put-connected c _ ∙ ap (λ b. cond b false (connected s a)) (or-none (eqb c a))
+  perform-connected (Connect c address) = client-connected s a ha c _
+  perform-connected (Disconnect c) = client-connected s a ha c _ ∙ ap (λ b. cond b false (connected s a)) (or-none (eqb c a))
     where
       or-none : (b : Bool) → b ≡ (b || false)
       or-none true = refl

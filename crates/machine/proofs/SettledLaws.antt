@@ -21,10 +21,10 @@ use Rattle.machine.specs.Declined.{Action, Connect, Disconnect, Tick, Re
 use Rattle.machine.specs.Machine.{Effect, perform, lineWork, step, sampleGiven}
 use Rattle.machine.specs.TwoDevices.{after, sheetOf, isConnect}
 use Rattle.machine.proofs.TestLaws.{cond-either, cond-false, eqb-sym}
-use Rattle.machine.proofs.StateLaws.{nobody-there, pair-visited, pair-sampled, stored-after}
-use Rattle.machine.proofs.RangeLaws.{InRange, range-out}
+use Rattle.machine.proofs.StateLaws.{nobody-there, pair-visited, pair-sampled, stored-after, own-client, other-pair}
+use Rattle.machine.proofs.RangeLaws.{range-out}
 use Rattle.machine.proofs.StepLaws.{by-cases, accepted}
-use Rattle.machine.proofs.KeptLaws.{perform-kept, other-pair, own-client}
+use Rattle.machine.proofs.KeptLaws.{perform-kept}
 use Rattle.machine.proofs.NextLaws.{answer-next, line-next}
 use Rattle.machine.proofs.ListLaws.{opened-alone, sheet-is, connect-pair}
 use Rattle.machine.proofs.KnownLaws.{Good, good-fresh, good-sampled, good-visit}
@@ -67,23 +67,23 @@ module _ (a j : ℕ) (ha : a < 8) (hj : j < 32) where
       (λ e _. set-good s c (listed (s .sheet) m) (strategyAsked (s .sheet) m) g) r)
 
   -- another client's connection
-  other-good : (s : State) → InRange s → GoodIn (s .sheet) s → (c : ℕ) (k : Client) → eqb c a ≡ false → GoodIn (s .sheet) (withClient s c k)
+  other-good : (s : State) → GoodIn (s .sheet) s → (c : ℕ) (k : Client) → eqb c a ≡ false → GoodIn (s .sheet) (withClient s c k)
   unfolding withClient
-  other-good s r g c k e = subst (Good (sensorOf (s .sheet) j) (s .clock) (present s j)) (sym (other-pair s r a j ha hj c k e)) g
+  other-good s g c k e = subst (Good (sensorOf (s .sheet) j) (s .clock) (present s j)) (sym (other-pair s a j ha hj c k e)) g
 
-  perform-good : (s : State) → InRange s → j < s .sheet .count → GoodIn (s .sheet) s → connected s a ≡ true → (action : Action) → isConnect a action ≡ false
+  perform-good : (s : State) → j < s .sheet .count → GoodIn (s .sheet) s → connected s a ≡ true → (action : Action) → isConnect a action ≡ false
       → connected (perform (s .sheet) s action .next) a ≡ true → GoodIn (s .sheet) (perform (s .sheet) s action .next)
   unfolding perform
-  perform-good s r hs g on (Connect c address) n after-on = other-good s r g c (clientAt address) n
-  perform-good s r hs g on (Disconnect c) n after-on = go (eqb c a) refl
+  perform-good s hs g on (Connect c address) n after-on = other-good s g c (clientAt address) n
+  perform-good s hs g on (Disconnect c) n after-on = go (eqb c a) refl
     where
       go : (b : Bool) → eqb c a ≡ b → GoodIn (s .sheet) (perform (s .sheet) s (Disconnect c) .next)
-      go true e = absurd (true≢false (sym after-on ∙ own-client s r a j ha hj c blankClient e))
-      go false e = other-good s r g c blankClient e
-  perform-good s r hs g on (Tick t) n after-on = tick-good s t hs g on
-  perform-good s r hs g on (Reading k x) n after-on = reading-good s k (sampleGiven (sensorOf (s .sheet) k) x) hs g on
-  perform-good s r hs g on (Log level logger said) n after-on = g
-  perform-good s r hs g on (Line c line) n after-on = line-good s c line g after-on
+      go true e = absurd (true≢false (sym after-on ∙ own-client s a ha c blankClient e))
+      go false e = other-good s g c blankClient e
+  perform-good s hs g on (Tick t) n after-on = tick-good s t hs g on
+  perform-good s hs g on (Reading k x) n after-on = reading-good s k (sampleGiven (sensorOf (s .sheet) k) x) hs g on
+  perform-good s hs g on (Log level logger said) n after-on = g
+  perform-good s hs g on (Line c line) n after-on = line-good s c line g after-on
 
   -- one call
   good-step : (s : State) (call : Call) → j < s .sheet .count → (connected s a ≡ true → GoodIn (s .sheet) s) → connected (step s call .next) a ≡ true → GoodIn (s .sheet) (step s call .next)
@@ -92,7 +92,7 @@ module _ (a j : ℕ) (ha : a < 8) (hj : j < 32) where
       go : declined (s .sheet) s call ≡ 0 → connected (perform (s .sheet) s (call .action) .next) a ≡ true → (b : Bool) → isConnect a (call .action) ≡ b → GoodIn (s .sheet) (perform (s .sheet) s (call .action) .next)
       go z on true e = subst (Good (sensorOf (s .sheet) j) _ _) (sym (connect-pair a j ha hj s (call .action) e)) (good-fresh (sensorOf (s .sheet) j) _ _)
       go z on false e = let r = range-out s (accepted s call z .in-range) in let b = perform-kept s r a j ha hj (call .action) (accepted s call z .fits) e on .before in
-          perform-good s r hs (ih b) b (call .action) e on
+          perform-good s hs (ih b) b (call .action) e on
 
   pub good : (bytes : List ℕ) → j < sheetOf bytes .count → (h : List Call) → connected (after bytes h) a ≡ true → GoodIn (sheetOf bytes) (after bytes h)
   unfolding after

@@ -1,7 +1,7 @@
 -- The subscription of a client to a sensor, after each way of writing the state anew.
 use Prim.Native.Nat.{ℕ, _+_, _*_, _/_, _%_, _<_}
 use native.Mathlib.Omega.{arith}
-use mathlib.Core.Path.{_≡_, refl, _∙_}
+use mathlib.Core.Path.{_≡_, refl, ap, _∙_}
 use mathlib.Core.Bool.{true, false, cond, _&&_}
 use mathlib.Core.List.{List}
 use lib.Dec.{eqb, ltb}
@@ -18,7 +18,7 @@ use Rattle.machine.specs.Places.{tabulate, has}
 use Rattle.machine.specs.State.{clientOf, connected, pairOf, present, storedOf, noSubscription, noStored, noClient, blankClient, withClient, withReading}
 use Rattle.machine.specs.Report.{dueAt, pairAfter, reported}
 use Rattle.machine.specs.Requests.{sampled, sampledPairs}
-use Rattle.machine.proofs.TestLaws.{and-true}
+use Rattle.machine.proofs.TestLaws.{and-true, cond-true, cond-false, cond-ap, eqb-sym}
 use Rattle.machine.proofs.PlacesLaws.{getD-tabulate, replicate-either}
 
 pub place-client : (a j : ℕ) → j < 32 → (a * 32 + j) / 32 ≡ a
@@ -63,3 +63,17 @@ nobody-there a = replicate-either (λ (k : Client). k .connected ≡ false) 8 a 
 pub due-below : (sheet : Sheet) (s : State) (cause : Cause) (c j : ℕ) (p : Subscription) → dueAt sheet s cause c j p ≡ true → j < sheet .count
 unfolding dueAt
 due-below sheet s cause c j p h = ltb-true j (sheet .count) (and-true (ltb j (sheet .count)) _ (and-true (connected s c) _ h .1) .0)
+
+module _ (s : State) (a : ℕ) (ha : a < 8) where
+  -- whether a client is connected after client c's place was written anew
+  pub client-connected : (c : ℕ) (k : Client) → connected (withClient s c k) a ≡ cond (eqb c a) (k .connected) (connected s a)
+  client-connected c k = ap (λ (k : Client). k .connected) (client-after s c a k ha) ∙ (cond-ap (λ (k : Client). k .connected) (eqb a c) k (clientOf s a) ∙ ap (λ b. cond b (k .connected) (connected s a)) (eqb-sym a c))
+
+  pub own-client : (c : ℕ) (k : Client) → eqb c a ≡ true → connected (withClient s c k) a ≡ k .connected
+  own-client c k e = client-connected c k ∙ cond-true (eqb c a) (k .connected) (connected s a) e
+
+  pub other-client : (c : ℕ) (k : Client) → eqb c a ≡ false → connected (withClient s c k) a ≡ connected s a
+  other-client c k e = client-connected c k ∙ cond-false (eqb c a) (k .connected) (connected s a) e
+
+pub other-pair : (s : State) (a j : ℕ) → a < 8 → j < 32 → (c : ℕ) (k : Client) → eqb c a ≡ false → pairOf (withClient s c k) a j ≡ pairOf s a j
+other-pair s a j ha hj c k e = pair-of-client s a j ha hj c k ∙ cond-false (eqb a c) noSubscription (pairOf s a j) (eqb-sym a c ∙ e)

@@ -27,10 +27,10 @@ use Rattle.machine.specs.Declined.{Action, Connect, Disconnect, Tick, Re
 use Rattle.machine.specs.Machine.{Effect, perform, lineWork, step, sampleGiven}
 use Rattle.machine.specs.TwoDevices.{after, connects, isConnect, names, strategyIn, strategyAfter, strategyOf}
 use Rattle.machine.proofs.TestLaws.{cond-ap, cond-same, cond-cases, passed, eqb-sym}
-use Rattle.machine.proofs.StateLaws.{nobody-there, pair-visited, pair-sampled}
-use Rattle.machine.proofs.RangeLaws.{InRange, range-out}
+use Rattle.machine.proofs.StateLaws.{nobody-there, pair-visited, pair-sampled, own-client, other-pair}
+use Rattle.machine.proofs.RangeLaws.{range-out}
 use Rattle.machine.proofs.StepLaws.{by-cases, accepted, client-fits, asks-is, nameFor}
-use Rattle.machine.proofs.KeptLaws.{perform-kept, own-client, other-pair}
+use Rattle.machine.proofs.KeptLaws.{perform-kept}
 use Rattle.machine.proofs.AnsweredLaws.{asksFor}
 use Rattle.machine.proofs.GrantedLaws.{callOf, granted-is}
 use Rattle.machine.proofs.ListLaws.{opened-alone, sheet-is, sent-packets, connect-pair}
@@ -117,19 +117,19 @@ strategyGiven s a j (Log level logger said) before = before
 strategyGiven s a j (Line c line) before = cond (eqb c a && asksFor SensorSampling (asked line)) (strategyIn (s .sheet) j (parse line) before) before
 
 module _ (s : State) (a j : ℕ) (ha : a < 8) (hj : j < 32) where
-  perform-strategy : InRange s → (action : Action) → actionDeclined (s .sheet) s action ≡ 0 → isConnect a action ≡ false → connected (perform (s .sheet) s action .next) a ≡ true
+  perform-strategy : (action : Action) → actionDeclined (s .sheet) s action ≡ 0 → isConnect a action ≡ false → connected (perform (s .sheet) s action .next) a ≡ true
       → strategyNow a j (perform (s .sheet) s action .next) ≡ strategyGiven s a j action (strategyNow a j s)
   unfolding perform withReading
-  perform-strategy h (Connect c address) d n on = ap (λ (p : Subscription). p .strategy) (other-pair s h a j ha hj c (clientAt address) n)
-  perform-strategy h (Disconnect c) d n on = go (eqb c a) refl
+  perform-strategy (Connect c address) d n on = ap (λ (p : Subscription). p .strategy) (other-pair s a j ha hj c (clientAt address) n)
+  perform-strategy (Disconnect c) d n on = go (eqb c a) refl
     where
       go : (b : Bool) → eqb c a ≡ b → strategyNow a j (perform (s .sheet) s (Disconnect c) .next) ≡ strategyNow a j s
-      go true e = absurd (true≢false (sym on ∙ own-client s h a j ha hj c blankClient e))
-      go false e = ap (λ (p : Subscription). p .strategy) (other-pair s h a j ha hj c blankClient e)
-  perform-strategy h (Tick t) d n on = visit-strategy s a j ha hj (withClock s t) _
-  perform-strategy h (Reading k r) d n on = visit-strategy s a j ha hj (withReading s k (sampleGiven _ r)) _
-  perform-strategy h (Log level logger said) d n on = refl
-  perform-strategy h (Line c line) d n on = line-strategy s a j ha hj c line d on
+      go true e = absurd (true≢false (sym on ∙ own-client s a ha c blankClient e))
+      go false e = ap (λ (p : Subscription). p .strategy) (other-pair s a j ha hj c blankClient e)
+  perform-strategy (Tick t) d n on = visit-strategy s a j ha hj (withClock s t) _
+  perform-strategy (Reading k r) d n on = visit-strategy s a j ha hj (withReading s k (sampleGiven _ r)) _
+  perform-strategy (Log level logger said) d n on = refl
+  perform-strategy (Line c line) d n on = line-strategy s a j ha hj c line d on
 
   -- what is read off the call's bytes
   after-is : (action : Action) (lent : List ℕ) (before : Strategy)
@@ -161,7 +161,7 @@ module _ (s : State) (a j : ℕ) (ha : a < 8) (hj : j < 32) where
       go : declined (s .sheet) s call ≡ 0 → connected (perform (s .sheet) s (call .action) .next) a ≡ true → (b : Bool) → isConnect a (call .action) ≡ b
           → strategyNow a j (perform (s .sheet) s (call .action) .next) ≡ cond b None (strategyGiven s a j (call .action) st)
       go z on true e = ap (λ (p : Subscription). p .strategy) (connect-pair a j ha hj s (call .action) e)
-      go z on false e = perform-strategy (range-out s (accepted s call z .in-range)) (call .action) (accepted s call z .fits) e on
+      go z on false e = perform-strategy (call .action) (accepted s call z .fits) e on
           ∙ ap (strategyGiven s a j (call .action)) (ih (perform-kept s (range-out s (accepted s call z .in-range)) a j ha hj (call .action) (accepted s call z .fits) e on .before))
 
 module _ (a j : ℕ) (ha : a < 8) (hj : j < 32) (bytes : List ℕ) where

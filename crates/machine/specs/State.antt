@@ -49,11 +49,11 @@ connected s c = clientOf s c .connected
 abbrev pub addressOf : Client → List ℕ
 addressOf k = take (k .«address_len») (k .address)
 
--- the subscription at a place: that of client p / 32 to sensor p % 32
+-- the subscription at a place, document 01's "pair": that of client p / 32 and sensor p % 32
 abbrev pub pairAt : State → ℕ → Subscription
 pairAt s p = getD (s .subscriptions) p noSubscription
 
--- the subscription of client c to sensor j
+-- the pair of client c and sensor j
 abbrev pub pairOf : State → ℕ → ℕ → Subscription
 pairOf s c j = pairAt s (c * 32 + j)
 
