@@ -9,7 +9,7 @@ use lib.Dec.{eqb, ltb}
 use lib.ListN.{length}
 use lib.Seq.{take-append-seam}
 use borrow.Author.Tests.{eqb-true, eqb-false, eq-eqb}
-use Rattle.output.specs.Text.{text, same}
+use Rattle.output.specs.Text.{same}
 use Rattle.output.proofs.TextLaws.{same-refl, same-true}
 use Rattle.message.specs.Message.{Message, line}
 use Rattle.message.specs.Delivery.{Delivery, to, packet, cut, Short}
@@ -18,9 +18,9 @@ use Rattle.line.specs.Line.{Parse, malformed, message, parse, blankLine, WellFo
 use Rattle.line.proofs.ParsedHead.{parsed-head}
 use Rattle.machine.specs.declared.State.{State}
 use Rattle.machine.specs.declared.Request.{Request}
-use Rattle.machine.specs.declared.Request.the-variants.{ClientList, Halt, Help, LogLevel, Restart, SensorList, SensorSampling, SensorValue, VersionList, Watchdog}
+use Rattle.machine.specs.declared.Request.the-variants.{Halt, Restart, SensorSampling}
 use Rattle.machine.specs.Places.{any, Each}
-use Rattle.machine.specs.Messages.{refusalCode, okReply, samplingReply}
+use Rattle.machine.specs.Messages.{okReply, samplingReply}
 use Rattle.machine.specs.Report.{Work}
 use Rattle.machine.specs.Requests.{Asked, Nothing, NotMessage, Reply, Unknown, Asks, asked, askedBy, askedFor, requestNamed, sampling, sampledSends, answer}
 use Rattle.machine.specs.Declined.{Action, Connect, Disconnect, Tick, Reading, Log, Line, Call, lineRefusal, refusal}
@@ -30,6 +30,7 @@ use Rattle.machine.specs.TwoDevices.{after, packetsOf, isRequest, answer
 use Rattle.machine.proofs.TestLaws.{cond-either}
 use Rattle.machine.proofs.StepLaws.{nameFor, request-name, request-found, other-kind, request-asked}
 use Rattle.machine.proofs.FileLaws.{line-parses}
+use Rattle.machine.proofs.QuietLaws.{code-not-ok}
 
 -- the deliveries in the bytes that a call counts are those that it sent
 pub packets-are : (bytes : List ℕ) (h : List Call) (call : Call) → Short (map packet (step (after bytes h) call .sent))
@@ -56,9 +57,6 @@ and-not : (b x : Bool) → x ≡ false → (b && x) ≡ false
 and-not true x h = h
 and-not false x h = refl
 
-refused-code : (n : ℕ) → same (refusalCode n) (text "ok") ≡ false
-refused-code n = cond-either (λ t. same t (text "ok") ≡ false) (eqb n 16 || (eqb n 18 || eqb n 23)) (text "fail") (text "invalid") refl refl
-
 pub refused-not-ok : (name : List ℕ) (c : ℕ) (s : State) (n : ℕ) (action : Action) → okIn name c (refusal s n action) ≡ false
 unfolding okIn any refusal lineRefusal
 refused-not-ok name c s n (Connect k address) = refl
@@ -72,8 +70,8 @@ refused-not-ok name c s n (Line k line) = cond-either (λ ds. okIn name c ds ≡
     go Nothing = refl
     go NotMessage = one-not (eqb k c) false refl
     go Reply = one-not (eqb k c) false refl
-    go (Unknown m) = one-not (eqb k c) _ (and-not (same (m .name) name) _ (refused-code n))
-    go (Asks r m) = one-not (eqb k c) _ (and-not (same (m .name) name) _ (refused-code n))
+    go (Unknown m) = one-not (eqb k c) _ (and-not (same (m .name) name) _ (code-not-ok n))
+    go (Asks r m) = one-not (eqb k c) _ (and-not (same (m .name) name) _ (code-not-ok n))
 
 abbrev isNothing : Option Request → Bool
 isNothing none = true
@@ -118,34 +116,24 @@ request-is r line = go (parse line) refl
         asks true k = known m (requestNamed (m .name)) refl ∙ ap (asksFor r) (sym (request-asked line m e (eqb-true (m .kind) (code "?") k)))
         asks false k = other m e k
 
--- a request that is not declined and is answered so
-abbrev pub answersOk : Request → Bool
-answersOk ClientList = false
-answersOk Halt = true
-answersOk Help = false
-answersOk LogLevel = false
-answersOk Restart = true
-answersOk SensorList = false
-answersOk SensorSampling = true
-answersOk SensorValue = false
-answersOk VersionList = false
-answersOk Watchdog = false
-
 -- a reply of success that comes first
 first-ok : (name : List ℕ) (c : ℕ) (m : Message) (args : List (List ℕ)) (ds : List Delivery) → m .name ≡ name → okIn name c (to c (okReply m args) ∷ ds) ≡ true
 unfolding okIn any
 first-ok name c m args ds e = rw (eq-eqb c c refl, e, same-refl name)
 
-pub answer-ok : (s : State) (c : ℕ) (r : Request) (m : Message) → m .name ≡ nameFor r → answersOk r ≡ true → okIn (nameFor r) c (answer (s .sheet) s c r m .sent) ≡ true
+-- a request that is answered `ok` where it is not declined
+abbrev pub AnswersOk : State → Request → Type 0
+AnswersOk s r = (c : ℕ) (m : Message) → m .name ≡ nameFor r → okIn (nameFor r) c (answer (s .sheet) s c r m .sent) ≡ true
+
+pub halt-ok : (s : State) → AnswersOk s Halt
+unfolding answer
+halt-ok s c m e = first-ok (nameFor Halt) c m [] _ e
+
+pub restart-ok : (s : State) → AnswersOk s Restart
+unfolding answer
+restart-ok s c m e = first-ok (nameFor Restart) c m [] _ e
+
+pub sampling-ok : (s : State) → AnswersOk s SensorSampling
 unfolding answer sampling sampledSends samplingReply
-answer-ok s c ClientList m e h = absurd (true≢false (sym h))
-answer-ok s c Halt m e h = first-ok (nameFor Halt) c m [] _ e
-answer-ok s c Help m e h = absurd (true≢false (sym h))
-answer-ok s c LogLevel m e h = absurd (true≢false (sym h))
-answer-ok s c Restart m e h = first-ok (nameFor Restart) c m [] _ e
-answer-ok s c SensorList m e h = absurd (true≢false (sym h))
-answer-ok s c SensorSampling m e h = cond-either (λ (w : Work). okIn (nameFor SensorSampling) c (w .sent) ≡ true) (eqb (length (m .args)) 1) _ _
+sampling-ok s c m e = cond-either (λ (w : Work). okIn (nameFor SensorSampling) c (w .sent) ≡ true) (eqb (length (m .args)) 1) _ _
     (first-ok (nameFor SensorSampling) c m _ _ e) (first-ok (nameFor SensorSampling) c m _ _ e)
-answer-ok s c SensorValue m e h = absurd (true≢false (sym h))
-answer-ok s c VersionList m e h = absurd (true≢false (sym h))
-answer-ok s c Watchdog m e h = absurd (true≢false (sym h))

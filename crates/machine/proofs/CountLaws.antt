@@ -7,14 +7,8 @@ use mathlib.Core.List.{List, [], _∷_}
 use lib.Dec.{eqb, ltb}
 use lib.ListN.{length}
 use borrow.Author.Tests.{ltb-true, ltb-false}
-use Rattle.machine.specs.Places.{tabulate, any, has, twice, Each}
+use Rattle.machine.specs.Places.{any, has, twice, Each}
 use Rattle.machine.proofs.TestLaws.{or-false, or-in, eqb-refl}
-use Rattle.machine.proofs.PlacesLaws.{each-append}
-
-pub each-tabulate : {A : Type 0} (P : A → Type 0) (f : ℕ → A) (n : ℕ) → ((i : ℕ) → i < n → P (f i)) → Each P (tabulate f n)
-unfolding tabulate
-each-tabulate P f zero h = tt
-each-tabulate P f (suc n) h = each-append P (tabulate f n) (f n ∷ []) (each-tabulate P f n (λ i k. h i (omega arith))) (h n (omega arith), tt)
 
 -- how many places below n pass the test
 abbrev countBelow : (ℕ → Bool) → ℕ → ℕ

@@ -2,7 +2,7 @@
 use Prim.Native.Nat.{ℕ, suc, _/_, _%_, _<_}
 use native.Mathlib.Omega.{arith}
 use mathlib.Core.Path.{_≡_, refl, ap, sym, _∙_}
-use mathlib.Core.Bool.{Bool, true, false, not, _&&_, true≢false}
+use mathlib.Core.Bool.{Bool, true, false, _&&_, true≢false}
 use mathlib.Core.List.{List, [], map}
 use lib.Dec.{eqb, leb}
 use lib.ListN.{length}
@@ -16,26 +16,25 @@ use Rattle.machine.specs.declared.State.{State}
 use Rattle.machine.specs.declared.Cause.{Cause}
 use Rattle.machine.specs.declared.Cause.the-variants.{Tick as Ticked, Reading as Read}
 use Rattle.machine.specs.declared.Request.{Request}
-use Rattle.machine.specs.declared.Request.the-variants.{ClientList, Halt, Help, LogLevel, Restart, SensorList, SensorSampling, SensorValue, VersionList, Watchdog}
 use Rattle.machine.specs.Places.{any, Each}
 use Rattle.machine.specs.Sheet.{sensorOf, notOnSheet, sensorsOk}
-use Rattle.machine.specs.State.{connected, pairAt, withClock, withReading}
+use Rattle.machine.specs.State.{pairAt, withClock, withReading}
 use Rattle.machine.specs.Range.{isNone}
 use Rattle.machine.specs.Messages.{reportOf}
 use Rattle.machine.specs.Report.{Work, dueAt, pairSends, visit}
-use Rattle.machine.specs.Requests.{Asked, Nothing, NotMessage, Reply, Unknown, Asks, asked, requestNamed, listed, strategyAsked, sampledSends, sampling, answer}
-use Rattle.machine.specs.Declined.{refusal, Action, Connect, Disconnect, Tick, Reading, Log, Line, tickFits, countFits, samplingDeclined, argumentsDeclined, lineDeclined, actionDeclined}
-use Rattle.machine.specs.Machine.{connectSends, entries, Effect, sampleGiven, lineWork, perform}
+use Rattle.machine.specs.Requests.{listed, strategyAsked, sampledSends, sampling, answer}
+use Rattle.machine.specs.Declined.{refusal, Action, Connect, Disconnect, Tick, Reading, Log, Line, tickFits, samplingDeclined, argumentsDeclined, actionDeclined}
+use Rattle.machine.specs.Machine.{connectSends, entries, Effect, sampleGiven, perform}
 use Rattle.machine.specs.Reader.{News, Other, Impossible, Reported, SetTo, news}
 use Rattle.machine.specs.Claims.{NeverImpossible}
-use Rattle.machine.proofs.TestLaws.{and-true, cond-cases, passed, fitted}
+use Rattle.machine.proofs.TestLaws.{and-true, cond-cases, fitted}
 use Rattle.machine.proofs.PlacesLaws.{each-gather, each-one, each-weaker, each-map}
 use Rattle.machine.proofs.StateLaws.{due-below}
 use Rattle.machine.proofs.SheetLaws.{places-below}
 use Rattle.machine.proofs.RangeLaws.{InRange, range-out}
-use Rattle.machine.proofs.StepLaws.{by-cases, accepted, client-fits, nameFor, request-name, asks-is}
+use Rattle.machine.proofs.StepLaws.{by-cases, accepted, Asking, by-asking, by-sampling}
 use Rattle.machine.proofs.SamplingLaws.{listed-known}
-use Rattle.machine.proofs.QuietLaws.{isSampling, Silent, Quiet, connect-sends-quiet, entries-quiet, answer-quiet, refusal-quiet}
+use Rattle.machine.proofs.QuietLaws.{Silent, Quiet, connect-sends-quiet, entries-quiet, answer-quiet, refusal-quiet}
 use Rattle.machine.proofs.SampleRange.{Reportable, reportable, reportable-tick, reportable-reading, given-fits}
 use Rattle.machine.proofs.NewsLaws.{report-told}
 use Rattle.machine.proofs.SamplingNews.{setting-told, query-told}
@@ -88,37 +87,11 @@ sampling-possible s r c hc m e d = cond-cases (λ (w : Work). Each (Possible (s 
 
 -- Calls.
 
-request-possible : (s : State) → InRange s → (c : ℕ) → c < 8 → (r : Request) (m : Message) → m .name ≡ nameFor r → argumentsDeclined (s .sheet) r m ≡ 0
-    → Each (Possible (s .sheet)) (answer (s .sheet) s c r m .sent)
-unfolding requestNamed argumentsDeclined answer
-request-possible s i c hc r m e d = by-request r e d
-  where
-    other : (r : Request) → m .name ≡ nameFor r → isSampling r ≡ false → Each (Possible (s .sheet)) (answer (s .sheet) s c r m .sent)
-    other r e h = quiet-possible (s .sheet) (answer (s .sheet) s c r m .sent) (answer-quiet (s .sheet) s c r m e h)
-
-    by-request : (r : Request) → m .name ≡ nameFor r → argumentsDeclined (s .sheet) r m ≡ 0 → Each (Possible (s .sheet)) (answer (s .sheet) s c r m .sent)
-    by-request ClientList e d = other ClientList e refl
-    by-request Halt e d = other Halt e refl
-    by-request Help e d = other Help e refl
-    by-request LogLevel e d = other LogLevel e refl
-    by-request Restart e d = other Restart e refl
-    by-request SensorList e d = other SensorList e refl
-    by-request SensorSampling e d = sampling-possible s i c hc m (e ∙ sym (request-name (text "sensor-sampling") SensorSampling refl)) d
-    by-request SensorValue e d = other SensorValue e refl
-    by-request VersionList e d = other VersionList e refl
-    by-request Watchdog e d = other Watchdog e refl
-
-line-possible : (s : State) → InRange s → (c : ℕ) → c < 8 → (line : List ℕ) → lineDeclined (s .sheet) (asked line) ≡ 0
-    → Each (Possible (s .sheet)) (lineWork (s .sheet) s c (asked line) .sent)
-unfolding lineDeclined lineWork
-line-possible s i c hc line d = go (asked line) refl d
-  where
-    go : (a : Asked) → asked line ≡ a → lineDeclined (s .sheet) a ≡ 0 → Each (Possible (s .sheet)) (lineWork (s .sheet) s c a .sent)
-    go Nothing e d = tt
-    go NotMessage e d = tt
-    go Reply e d = tt
-    go (Unknown m) e d = tt
-    go (Asks r m) e d = request-possible s i c hc r m (asks-is line r m e .named) (passed (not (countFits r (length (m .args)))) 15 (argumentsDeclined (s .sheet) r m) (omega arith) d .1)
+request-possible : (s : State) → InRange s → (c : ℕ) (line : List ℕ) (r : Request) (m : Message) → Asking s c line r m → Each (Possible (s .sheet)) (answer (s .sheet) s c r m .sent)
+unfolding argumentsDeclined answer
+request-possible s i c line r m = by-sampling (λ r. Asking s c line r m → Each (Possible (s .sheet)) (answer (s .sheet) s c r m .sent))
+    (λ k. sampling-possible s i c (k .client) m (k .request .named) (k .arguments))
+    (λ r q k. quiet-possible (s .sheet) (answer (s .sheet) s c r m .sent) (answer-quiet (s .sheet) s c r m (k .request .named) q)) r
 
 action-possible : (s : State) → InRange s → (action : Action) → actionDeclined (s .sheet) s action ≡ 0 → Each (Possible (s .sheet)) (perform (s .sheet) s action .sent)
 unfolding perform actionDeclined tickFits withReading
@@ -129,8 +102,7 @@ action-possible s r (Tick t) d = let q = and-true (leb (s .clock) t) (inTime t) 
 action-possible s r (Reading j g) d = let x = sampleGiven (sensorOf (s .sheet) j) g in
     visit-possible (withReading s j x) (r .sensors-in) (reportable-reading s r j x (given-fits (sensorOf (s .sheet) j) g)) (Read j)
 action-possible s r (Log level logger said) d = quiet-possible (s .sheet) (entries s level logger said) (entries-quiet (s .sheet) s level logger said)
-action-possible s r (Line c line) d = let q = client-fits (not (connected s c)) c (lineDeclined (s .sheet) (asked line)) d in
-    line-possible s r c (q .0) line (q .1 .1)
+action-possible s r (Line c line) d = by-asking (λ (w : Work). Each (Possible (s .sheet)) (w .sent)) s c line d tt (request-possible s r c line)
 
 pub never-impossible : NeverImpossible
 never-impossible s call = by-cases (λ (e : Effect). Each (Possible (s .sheet)) (e .sent)) s call

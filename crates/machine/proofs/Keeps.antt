@@ -2,12 +2,12 @@
 use Prim.Native.Nat.{ℕ, zero, suc, _-_, _≤_}
 use native.Mathlib.Omega.{arith}
 use mathlib.Core.Path.{_≡_, refl, sym, _∙_}
-use mathlib.Core.Bool.{Bool, true, false, cond, not, _&&_, true≢false}
+use mathlib.Core.Bool.{Bool, true, false, cond, _&&_, true≢false}
 use mathlib.Core.List.{List, _++_}
 use lib.Dec.{eqb, leb}
 use lib.ListN.{length, take, drop, replicate}
 use lib.Seq.{take-append-seam, drop-append-seam}
-use borrow.Author.Tests.{leb-true, leb-false, not-false}
+use borrow.Author.Tests.{leb-true, leb-false}
 use Rattle.output.specs.Text.{all}
 use Rattle.output.specs.Read.{inTime}
 use Rattle.message.specs.Message.{Message}
@@ -19,14 +19,13 @@ use Rattle.machine.specs.Sheet.{sensorOf, notOnSheet, graphic, zeroByte,
 use Rattle.machine.specs.State.{connected, startLevel, clientAt, blankClient, withClock, withReading}
 use Rattle.machine.specs.Range.{clientOk, noClients, isBlank, inRange}
 use Rattle.machine.specs.Report.{Work}
-use Rattle.machine.specs.Requests.{Asked, Nothing, NotMessage, Reply, Unknown, Asks, asked, argument, levelOf, levelAsked, listed, strategyAsked, sampling, answer}
-use Rattle.machine.specs.Declined.{Action, Connect, Disconnect, Tick, Reading, Log, Line, Call, addressFits, tickFits, countFits, samplingDeclined, argumentsDeclined, lineDeclined, actionDeclined}
-use Rattle.machine.specs.Machine.{Effect, sampleGiven, lineWork, perform, step}
+use Rattle.machine.specs.Requests.{argument, levelOf, levelAsked, listed, strategyAsked, sampling, answer}
+use Rattle.machine.specs.Declined.{Action, Connect, Disconnect, Tick, Reading, Log, Line, Call, addressFits, tickFits, samplingDeclined, argumentsDeclined, actionDeclined}
+use Rattle.machine.specs.Machine.{Effect, sampleGiven, perform, step}
 use Rattle.machine.proofs.TestLaws.{and-true, and-in, or-true, passed, fitted, cond-cases}
-use Rattle.machine.proofs.SheetLaws.{sensors-out}
 use Rattle.machine.proofs.SampleRange.{given-fits}
-use Rattle.machine.proofs.RangeLaws.{InRange, range-out, range-of}
-use Rattle.machine.proofs.StepLaws.{by-cases, accepted, client-fits}
+use Rattle.machine.proofs.RangeLaws.{InRange, range-out, range-of, sensors-of}
+use Rattle.machine.proofs.StepLaws.{by-cases, accepted, client-fits, by-asking}
 use Rattle.machine.proofs.SamplingLaws.{listed-below, setting-suits}
 use Rattle.machine.proofs.StateRange.{clock-kept, level-kept, emptied-kept, reading-kept, client-kept, visit-kept, sampled-kept}
 
@@ -57,9 +56,9 @@ newcomer-fits t h =
     (and-in (all graphic (take (length t) (t ++ replicate (48 - length t) 0))) (all zeroByte (drop (length t) (t ++ replicate (48 - length t) 0)))
     (rw (take-append-seam t (replicate (48 - length t) 0)) (b .1)) (rw (drop-append-seam t (replicate (48 - length t) 0)) (zeros-zero (48 - length t)))))
 
-leaver-fits : clientOk blankClient ≡ true
+unconnected-fits : clientOk blankClient ≡ true
 unfolding clientOk textOk
-leaver-fits = refl
+unconnected-fits = refl
 
 -- Requests.
 
@@ -75,7 +74,7 @@ module _ (s : State) (r : InRange s) (t : titlesOk (s .sheet) ≡ true) (c : ℕ
   sampling-kept : connected s c ≡ true → samplingDeclined (s .sheet) m ≡ 0 → InRange (sampling (s .sheet) s c m .next)
   unfolding sampling
   sampling-kept h e = cond-cases (λ (w : Work). InRange (w .next)) (eqb (length (m .args)) 1) _ _ (λ q. r)
-      (λ q. sampled-kept s r t c (listed (s .sheet) m) (strategyAsked (s .sheet) m) h (listed-below (s .sheet) m e) (setting-suits (s .sheet) (sensors-out (s .sheet) (r .sensors-in)) m e q))
+      (λ q. sampled-kept s r t c (listed (s .sheet) m) (strategyAsked (s .sheet) m) h (listed-below (s .sheet) m e) (setting-suits (s .sheet) (sensors-of s r) m e q))
 
   answer-kept : connected s c ≡ true → (q : Request) → argumentsDeclined (s .sheet) q m ≡ 0 → InRange (answer (s .sheet) s c q m .next)
   unfolding answer argumentsDeclined
@@ -90,21 +89,13 @@ module _ (s : State) (r : InRange s) (t : titlesOk (s .sheet) ≡ true) (c : ℕ
   answer-kept h VersionList e = r
   answer-kept h Watchdog e = r
 
-line-kept : (s : State) → InRange s → titlesOk (s .sheet) ≡ true → (c : ℕ) → connected s c ≡ true → (a : Asked) → lineDeclined (s .sheet) a ≡ 0 → InRange (lineWork (s .sheet) s c a .next)
-unfolding lineWork lineDeclined
-line-kept s r t c h Nothing e = r
-line-kept s r t c h NotMessage e = r
-line-kept s r t c h Reply e = r
-line-kept s r t c h (Unknown m) e = r
-line-kept s r t c h (Asks q m) e = answer-kept s r t c m h q (passed (not (countFits q (length (m .args)))) 15 (argumentsDeclined (s .sheet) q m) (omega arith) e .1)
-
 -- Calls.
 
 perform-kept : (s : State) → InRange s → titlesOk (s .sheet) ≡ true → (d : Action) → actionDeclined (s .sheet) s d ≡ 0 → InRange (perform (s .sheet) s d .next)
 unfolding perform actionDeclined tickFits withReading
 perform-kept s r t (Connect c address) e = let a = client-fits (connected s c) c (cond (addressFits address) 0 7) e in
     client-kept s r t c (clientAt address) (newcomer-fits address (fitted (addressFits address) 7 0 (omega arith) (a .1 .1) .0))
-perform-kept s r t (Disconnect c) e = client-kept s r t c blankClient leaver-fits
+perform-kept s r t (Disconnect c) e = client-kept s r t c blankClient unconnected-fits
 perform-kept s r t (Tick n) e =
     let a = and-true (leb (s .clock) n) (inTime n) (fitted (leb (s .clock) n && inTime n) 8 0 (omega arith) e .0) in
     visit-kept (withClock s n) (clock-kept s r t n (leb-true (s .clock) n (a .0)) (leb-true n 9999999999999 (a .1))) t Ticked
@@ -113,8 +104,7 @@ perform-kept s r t (Reading j g) e =
     let n = sensorOf (s .sheet) j in
     visit-kept (withReading s j (sampleGiven n g)) (reading-kept s r t j (sampleGiven n g) (leb-false (s .sheet .count) j (a .0)) (given-fits n g)) t (Read j)
 perform-kept s r t (Log level logger said) e = r
-perform-kept s r t (Line c line) e = let a = client-fits (not (connected s c)) c (lineDeclined (s .sheet) (asked line)) e in
-    line-kept s r t c (not-false (connected s c) (a .1 .0)) (asked line) (a .1 .1)
+perform-kept s r t (Line c line) e = by-asking (λ (w : Work). InRange (w .next)) s c line e r (λ q m k. answer-kept s r t c m (k .there) q (k .arguments))
 
 pub step-kept : (s : State) → inRange s ≡ true → (call : Call) → inRange (step s call .next) ≡ true
 step-kept s h call = by-cases (λ (e : Effect). inRange (e .next) ≡ true) s call

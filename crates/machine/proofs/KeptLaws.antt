@@ -2,12 +2,12 @@
 use Prim.Native.Nat.{ℕ, _≤_, _<_}
 use native.Mathlib.Omega.{arith}
 use mathlib.Core.Path.{_≡_, refl, ap, sym, _∙_, ap₂}
-use mathlib.Core.Bool.{Bool, true, false, cond, not, _&&_, _||_, true≢false}
+use mathlib.Core.Bool.{Bool, true, false, cond, _&&_, _||_, true≢false}
 use mathlib.Core.List.{List, [], _∷_, map}
 use lib.Dec.{eqb, leb}
 use lib.ListN.{length, getD}
 use borrow.Author.Tests.{eqb-true, leb-true, ltb-false}
-use Rattle.output.specs.Text.{text}
+use Rattle.output.specs.Text.{text, same}
 use Rattle.output.specs.Read.{inTime}
 use Rattle.message.specs.Message.{Message}
 use Rattle.message.specs.Delivery.{to}
@@ -18,7 +18,7 @@ use Rattle.machine.specs.declared.Subscription.{Subscription}
 use Rattle.machine.specs.declared.State.{State}
 use Rattle.machine.specs.declared.Request.{Request}
 use Rattle.machine.specs.declared.Cause.{Cause}
-use Rattle.machine.specs.declared.Request.the-variants.{ClientList, Halt, Help, LogLevel, Restart, SensorList, SensorSampling, SensorValue, VersionList, Watchdog}
+use Rattle.machine.specs.declared.Request.the-variants.{SensorSampling}
 use Rattle.machine.specs.declared.Cause.the-variants.{Tick as Ticked, Reading as Read}
 use Rattle.machine.specs.Places.{any, has, Each}
 use Rattle.machine.specs.Sheet.{sensorOf}
@@ -26,23 +26,23 @@ use Rattle.machine.specs.State.{present, connected, pairOf, withPairs, w
 use Rattle.machine.specs.Range.{isNone}
 use Rattle.machine.specs.Messages.{reportOf, samplingReply}
 use Rattle.machine.specs.Report.{Work, visit, dueAt, reported}
-use Rattle.machine.specs.Requests
-use Rattle.machine.specs.Requests.{Asked, Nothing, NotMessage, Reply, Unknown, Asks, asked, argument, listed, firstOf, strategyAsked, sampled, sampledPairs, sampledSends, sampling, answer, sendsOnly}
-use Rattle.machine.specs.Declined.{Action, Connect, Disconnect, Tick, Reading, Log, Line, tickFits, actionDeclined, lineDeclined, argumentsDeclined, samplingDeclined, countFits}
-use Rattle.machine.specs.Machine.{perform, lineWork, sampleGiven}
+use Rattle.machine.specs.Requests.{argument, listed, firstOf, strategyAsked, sampled, sampledPairs, sampledSends, sampling, answer, sendsOnly}
+use Rattle.machine.specs.Declined.{Action, Connect, Disconnect, Tick, Reading, Log, Line, tickFits, actionDeclined, argumentsDeclined, samplingDeclined}
+use Rattle.machine.specs.Machine.{perform, sampleGiven}
 use Rattle.machine.specs.Reader.{View, news, SetTo, viewAfter, viewOf, standing}
 use Rattle.machine.specs.TwoDevices.{isConnect}
-use Rattle.machine.proofs.TestLaws.{cond-either, cond-cases, and-true, passed, fitted, eqb-sym}
+use Rattle.machine.proofs.TestLaws.{cond-cases, and-true, fitted, eqb-sym}
 use Rattle.machine.proofs.StateLaws.{pair-visited, pair-sampled, nobody-there, other-client, own-client, other-pair}
 use Rattle.machine.proofs.SheetLaws.{places-below}
 use Rattle.machine.proofs.RangeLaws.{InRange}
-use Rattle.machine.proofs.StepLaws.{client-fits, asks-is, nameFor}
+use Rattle.machine.proofs.StepLaws.{nameFor, Asking, by-asking, by-sampling}
 use Rattle.machine.proofs.HeardLaws.{heard, heard-none, heard-more, quiet-heard, Readable, told-now, visit-heard, listed-heard}
 use Rattle.machine.proofs.SamplingLaws.{listed-some, listed-known}
 use Rattle.machine.proofs.QuietLaws.{connect-sends-quiet, entries-quiet, answer-quiet}
 use Rattle.machine.proofs.SampleRange.{reportable, reportable-tick, reportable-reading, given-fits}
 use Rattle.machine.proofs.NewsLaws.{report-told}
 use Rattle.machine.proofs.SamplingNews.{query-one, query-told, setting-told}
+use Rattle.machine.proofs.NextLaws.{answer-next, sampling-clients}
 
 -- client a was connected before the call, and heard what changed for sensor j
 pub record Kept (sheet : Sheet) (s : State) (e : Work) (a j : ℕ) : Type 0 where
@@ -122,11 +122,6 @@ module _ (sheet : Sheet) (a j : ℕ) where
 query-alone : (sheet : Sheet) (m : Message) → samplingDeclined sheet m ≡ 0 → eqb (length (m .args)) 1 ≡ true → listed sheet m ≡ getD (listed sheet m) 0 0 ∷ []
 query-alone sheet m d e = one-listed (listed sheet m) (listed-some sheet m) (ltb-false 1 (length (listed sheet m)) (query-one sheet m d e))
 
--- sampling leaves the clients
-pub sampling-clients : (s : State) (c a : ℕ) (m : Message) → connected (sampling (s .sheet) s c m .next) a ≡ connected s a
-unfolding sampling
-sampling-clients s c a m = cond-either (λ (w : Work). connected (w .next) a ≡ connected s a) (eqb (length (m .args)) 1) _ _ refl refl
-
 module _ (s : State) (r : InRange s) (a j : ℕ) (ha : a < 8) (hj : j < 32) where
   sampling-kept : (c : ℕ) (m : Message) → c < 8 → m .name ≡ text "sensor-sampling" → samplingDeclined (s .sheet) m ≡ 0 → connected s a ≡ true
       → Kept (s .sheet) s (sampling (s .sheet) s c m) a j
@@ -158,35 +153,20 @@ module _ (s : State) (r : InRange s) (a j : ℕ) (ha : a < 8) (hj : j < 32) wher
             (places-below (s .sheet) js (listed-known (s .sheet) m d .0));
       }
 
-  -- a request other than sampling tells nothing, and leaves every pair or forgets every client
-  answer-kept : (c : ℕ) (r : Request) (m : Message) → c < 8 → m .name ≡ nameFor r → argumentsDeclined (s .sheet) r m ≡ 0 → connected (answer (s .sheet) s c r m .next) a ≡ true
-      → Kept (s .sheet) s (answer (s .sheet) s c r m) a j
+  -- a request other than sampling leaves every pair or forgets every client
+  other-left : (c : ℕ) (m : Message) (r : Request) → same (nameFor r) (nameFor SensorSampling) ≡ false → connected (answer (s .sheet) s c r m .next) a ≡ true
+      → (connected s a ≡ true) × (standing (s .sheet) (answer (s .sheet) s c r m .next) a j ≡ standing (s .sheet) s a j)
+  other-left c m = answer-next (λ r n. same (nameFor r) (nameFor SensorSampling) ≡ false → connected n a ≡ true → (connected s a ≡ true) × (standing (s .sheet) n a j ≡ standing (s .sheet) s a j)) s c m
+      (λ r q e on. (on, refl)) (λ l e on. (on, refl)) (λ b l e on. absurd (true≢false (sym on ∙ nobody-there a))) (λ b l e on. absurd (true≢false (sym on ∙ nobody-there a)))
+      (λ q e on. (on, refl)) (λ q e. absurd (true≢false e))
+
+  -- and tells nothing
+  answer-kept : (c : ℕ) (line : List ℕ) (r : Request) (m : Message) → Asking s c line r m → connected (answer (s .sheet) s c r m .next) a ≡ true → Kept (s .sheet) s (answer (s .sheet) s c r m) a j
   unfolding answer argumentsDeclined
-  answer-kept c ClientList m hc named z on = record { before = on; heard-is = sym (quiet-heard (s .sheet) a j _ _ (answer-quiet (s .sheet) s c ClientList m named refl)) }
-  answer-kept c Halt m hc named z on = absurd (true≢false (sym on ∙ nobody-there a))
-  answer-kept c Help m hc named z on = record { before = on; heard-is = sym (quiet-heard (s .sheet) a j _ _ (answer-quiet (s .sheet) s c Help m named refl)) }
-  answer-kept c LogLevel m hc named z on = record { before = on; heard-is = sym (quiet-heard (s .sheet) a j _ _ (answer-quiet (s .sheet) s c LogLevel m named refl)) }
-  answer-kept c Restart m hc named z on = absurd (true≢false (sym on ∙ nobody-there a))
-  answer-kept c SensorList m hc named z on = record { before = on; heard-is = sym (quiet-heard (s .sheet) a j _ _ (answer-quiet (s .sheet) s c SensorList m named refl)) }
-  answer-kept c SensorSampling m hc named z on = sampling-kept c m hc named z (sym (sampling-clients s c a m) ∙ on)
-  answer-kept c SensorValue m hc named z on = record { before = on; heard-is = sym (quiet-heard (s .sheet) a j _ _ (answer-quiet (s .sheet) s c SensorValue m named refl)) }
-  answer-kept c VersionList m hc named z on = record { before = on; heard-is = sym (quiet-heard (s .sheet) a j _ _ (answer-quiet (s .sheet) s c VersionList m named refl)) }
-  answer-kept c Watchdog m hc named z on = record { before = on; heard-is = sym (quiet-heard (s .sheet) a j _ _ (answer-quiet (s .sheet) s c Watchdog m named refl)) }
-
-  line-kept : (c : ℕ) (line : List ℕ) → actionDeclined (s .sheet) s (Line c line) ≡ 0 → connected (lineWork (s .sheet) s c (asked line) .next) a ≡ true
-      → Kept (s .sheet) s (lineWork (s .sheet) s c (asked line)) a j
-  unfolding lineWork actionDeclined lineDeclined
-  line-kept c line d on = go (asked line) refl on (fits .1 .1)
-    where
-      fits : (c < 8) × ((not (connected s c) ≡ false) × (lineDeclined (s .sheet) (asked line) ≡ 0))
-      fits = client-fits (not (connected s c)) c (lineDeclined (s .sheet) (asked line)) d
-
-      go : (w : Asked) → asked line ≡ w → connected (lineWork (s .sheet) s c w .next) a ≡ true → lineDeclined (s .sheet) w ≡ 0 → Kept (s .sheet) s (lineWork (s .sheet) s c w) a j
-      go Nothing e on z = record { before = on; heard-is = sym (heard-none (s .sheet) a j _) }
-      go NotMessage e on z = record { before = on; heard-is = sym (heard-none (s .sheet) a j _) }
-      go Reply e on z = record { before = on; heard-is = sym (heard-none (s .sheet) a j _) }
-      go (Unknown m) e on z = record { before = on; heard-is = sym (heard-none (s .sheet) a j _) }
-      go (Asks r m) e on z = answer-kept c r m (fits .0) (asks-is line r m e .named) (passed (not (countFits r (length (m .args)))) 15 (argumentsDeclined (s .sheet) r m) (omega arith) z .1) on
+  answer-kept c line r m = by-sampling (λ r. Asking s c line r m → connected (answer (s .sheet) s c r m .next) a ≡ true → Kept (s .sheet) s (answer (s .sheet) s c r m) a j)
+      (λ k on. sampling-kept c m (k .client) (k .request .named) (k .arguments) (sym (sampling-clients s c a m) ∙ on))
+      (λ r q k on. let l = other-left c m r q on in
+      record { before = l .0; heard-is = l .1 ∙ sym (quiet-heard (s .sheet) a j _ _ (answer-quiet (s .sheet) s c r m (k .request .named) q)) }) r
 
   reading-kept : (k : ℕ) (g : Given) → connected s a ≡ true → Kept (s .sheet) s (visit (s .sheet) (withReading s k (sampleGiven (sensorOf (s .sheet) k) g)) (Read k)) a j
   unfolding withReading
@@ -216,4 +196,5 @@ module _ (s : State) (r : InRange s) (a j : ℕ) (ha : a < 8) (hj : j < 32) wher
   perform-kept (Tick t) d n on = tick-kept t (fitted (tickFits s t) 8 0 (omega arith) d .0) on
   perform-kept (Reading k g) d n on = reading-kept k g on
   perform-kept (Log level logger said) d n on = record { before = on; heard-is = sym (quiet-heard (s .sheet) a j _ _ (entries-quiet (s .sheet) s level logger said)) }
-  perform-kept (Line c line) d n on = line-kept c line d on
+  perform-kept (Line c line) d n on = by-asking (λ (w : Work). connected (w .next) a ≡ true → Kept (s .sheet) s w a j) s c line d
+      (λ on. record { before = on; heard-is = sym (heard-none (s .sheet) a j _) }) (answer-kept c line) on

@@ -18,6 +18,7 @@ use Rattle.machine.specs.Requests.{sampled}
 use Rattle.machine.specs.Reader.{Told, toldOf, validStatus}
 use Rattle.machine.proofs.SampleRange.{valid-is}
 use Rattle.machine.proofs.TestLaws.{and-false, or-false, cond-cases}
+use Rattle.machine.proofs.RangeLaws.{none-is}
 
 -- status and value are those of the report
 abbrev pub Same : Sensor → Sample → Told → Type 0
@@ -89,16 +90,6 @@ module _ (n : Sensor) where
       λ h. unchanged last now t (or-false (changed n last now) _ (and-false (leb a (clock - t)) _ e (le-leb a (clock - t) h)) .0)
   known-visit reading old clock now last t (DifferentialRate d a b) prior e =
       λ h. unmoved d last now t (or-false (moved n d last now) _ (and-false (leb a (clock - t)) _ e (le-leb a (clock - t) h)) .0)
-
-pub none-is : (st : Strategy) → isNone st ≡ true → st ≡ None
-unfolding isNone
-none-is None e = refl
-none-is Auto e = absurd (true≢false (sym e))
-none-is (Period p) e = absurd (true≢false (sym e))
-none-is Event e = absurd (true≢false (sym e))
-none-is (Differential d) e = absurd (true≢false (sym e))
-none-is (EventRate a b) e = absurd (true≢false (sym e))
-none-is (DifferentialRate d a b) e = absurd (true≢false (sym e))
 
 -- a pair with a strategy has a report, and that tells what the strategy promises
 pub record Good (n : Sensor) (clock : ℕ) (x : Sample) (p : Subscription) : Type 0 where

@@ -29,10 +29,10 @@ pub mod SentSizes
 pub mod SentAnswers
 pub mod Sent
 pub mod HeardLaws
-pub mod KeptLaws
 pub mod FileLaws
 pub mod AnsweredLaws
 pub mod NextLaws
+pub mod KeptLaws
 pub mod GrantedLaws
 pub mod ListLaws
 pub mod StrategyLaws

@@ -12,22 +12,20 @@ use Rattle.message.specs.Message.{Message}
 use Rattle.message.specs.Delivery.{Delivery, packet}
 use Rattle.value.specs.declared.Reading.{Reading as Given-reading}
 use Rattle.value.specs.Reading.{fresh as freshSample}
-use Rattle.machine.specs.declared.Sheet.{Sheet}
 use Rattle.machine.specs.declared.State.{State}
 use Rattle.machine.specs.declared.Stored.{Stored}
-use Rattle.machine.specs.declared.Opened.{Opened}
 use Rattle.machine.specs.Places.{isZero}
-use Rattle.machine.specs.Sheet.{sensorOf, sheetOk}
-use Rattle.machine.specs.State.{present, storedOf, noStored, connected, pairOf, noSubscription, withClient, freshReadings, fresh, blank}
-use Rattle.machine.specs.Opening.{Taken, broken, taken, accepted as openedFrom, sheetAt, opened}
+use Rattle.machine.specs.Sheet.{sensorOf}
+use Rattle.machine.specs.State.{present, storedOf, noStored, connected, pairOf, noSubscription, withClient, freshReadings}
+use Rattle.machine.specs.Opening.{opened}
 use Rattle.machine.specs.Declined.{Action, Connect, Disconnect, Tick, Reading, Log, Line, Call, actionDeclined, declined}
 use Rattle.machine.specs.Machine.{Effect, perform, step, sampleGiven}
 use Rattle.machine.specs.Reader.{View, viewBy, noView, viewOf, standing}
 use Rattle.machine.specs.TwoDevices.{after, sheetOf, returnedZero, packetsOf, connects, isConnect, isDisconnect, endsAll, connectedAtEnd, sentTo, messagesOf, readingBy, lastReading, sampleFrom, clockOf, clockBy}
-use Rattle.machine.proofs.TestLaws.{cond-true, cond-cases, eqb-sym}
+use Rattle.machine.proofs.TestLaws.{cond-true, eqb-sym}
 use Rattle.machine.proofs.PlacesLaws.{getD-tabulate}
 use Rattle.machine.proofs.StateLaws.{nobody-there, stored-after, pair-of-client}
-use Rattle.machine.proofs.StepLaws.{by-cases, accepted, client-fits}
+use Rattle.machine.proofs.StepLaws.{by-cases, accepted, client-fits, connect-only}
 use Rattle.machine.proofs.RangeLaws.{range-out}
 use Rattle.machine.proofs.QuietLaws.{connect-sends-quiet, refusal-quiet}
 use Rattle.machine.proofs.HeardLaws.{heard, view-append, quiet-heard}
@@ -36,16 +34,7 @@ use Rattle.machine.proofs.AnsweredLaws.{packets-are}
 use Rattle.machine.proofs.NextLaws.{perform-sheet, perform-clock, perform-connected, line-keeps, endsConnections}
 use Rattle.machine.proofs.GrantedLaws.{ends-is}
 use Rattle.machine.proofs.Sent.{sent-short}
-
--- an opened state is a fresh one or the blank one
-pub opened-either : (P : State → Type 0) (bytes : List ℕ) → ((sheet : Sheet) → sheetOk sheet ≡ true → P (fresh sheet)) → P blank → P (opened bytes .state)
-unfolding opened
-opened-either P bytes new old = go (sheetAt bytes)
-  where
-    go : (t : Taken Sheet) → P (openedFrom t .state)
-    go broken = old
-    go (taken sheet []) = cond-cases (λ (o : Opened). P (o .state)) (sheetOk sheet) _ _ (new sheet) (λ e. old)
-    go (taken sheet (b ∷ rest)) = old
+use Rattle.machine.proofs.OpenedRange.{opened-either}
 
 -- no client is connected at first
 pub opened-alone : (bytes : List ℕ) (a : ℕ) → connected (opened bytes .state) a ≡ false
@@ -116,18 +105,13 @@ module _ (bytes : List ℕ) (a : ℕ) where
       (sym (ap (endsAll (call .action)) (sent-packets h call) ∙ ends-is (after bytes h) (call .action) (call .lent)))
 
   -- only clients below 8 connect
-  connect-fits : (s : State) (action : Action) → actionDeclined (s .sheet) s action ≡ 0 → isConnect a action ≡ true → a < 8
+  connect-fits : (s : State) (action : Action) → isConnect a action ≡ true → actionDeclined (s .sheet) s action ≡ 0 → a < 8
   unfolding actionDeclined
-  connect-fits s (Connect c address) d e = rw (← eqb-true c a e) (client-fits (connected s c) c _ d .0)
-  connect-fits s (Disconnect c) d e = absurd (true≢false (sym e))
-  connect-fits s (Tick t) d e = absurd (true≢false (sym e))
-  connect-fits s (Reading j r) d e = absurd (true≢false (sym e))
-  connect-fits s (Log level logger said) d e = absurd (true≢false (sym e))
-  connect-fits s (Line c line) d e = absurd (true≢false (sym e))
+  connect-fits s = connect-only (λ action. actionDeclined (s .sheet) s action ≡ 0 → a < 8) a (λ c address e d. rw (← eqb-true c a e) (client-fits (connected s c) c _ d .0))
 
   connect-small : (s : State) (call : Call) → (isZero (step s call .number) && isConnect a (call .action)) ≡ true → a < 8
   connect-small s call = by-cases (λ (e : Effect). (isZero (e .number) && isConnect a (call .action)) ≡ true → a < 8) s call
-      (λ z. connect-fits s (call .action) (accepted s call z .fits)) (λ n _ e. absurd (true≢false (sym e)))
+      (λ z e. connect-fits s (call .action) e (accepted s call z .fits)) (λ n _ e. absurd (true≢false (sym e)))
 
   pub at-end-small : (h : List Call) → connectedAtEnd bytes a h ≡ true → a < 8
   unfolding connectedAtEnd
@@ -145,21 +129,13 @@ module _ (a j : ℕ) (ha : a < 8) (hj : j < 32) where
   -- a client that has just connected
   pub connect-pair : (s : State) (action : Action) → isConnect a action ≡ true → pairOf (perform (s .sheet) s action .next) a j ≡ noSubscription
   unfolding perform
-  connect-pair s (Connect c address) e = pair-of-client s a j ha hj c _ ∙ cond-true (eqb a c) noSubscription (pairOf s a j) (eqb-sym a c ∙ e)
-  connect-pair s (Disconnect c) e = absurd (true≢false (sym e))
-  connect-pair s (Tick t) e = absurd (true≢false (sym e))
-  connect-pair s (Reading k r) e = absurd (true≢false (sym e))
-  connect-pair s (Log level logger said) e = absurd (true≢false (sym e))
-  connect-pair s (Line c line) e = absurd (true≢false (sym e))
+  connect-pair s = connect-only (λ action. pairOf (perform (s .sheet) s action .next) a j ≡ noSubscription) a
+      (λ c address e. pair-of-client s a j ha hj c _ ∙ cond-true (eqb a c) noSubscription (pairOf s a j) (eqb-sym a c ∙ e))
 
-  connect-quiet : (s : State) (action : Action) (v : View) → isConnect a action ≡ true → heard (s .sheet) a j (perform (s .sheet) s action .sent) v ≡ v
+  connect-heard : (s : State) (v : View) (action : Action) → isConnect a action ≡ true → heard (s .sheet) a j (perform (s .sheet) s action .sent) v ≡ v
   unfolding perform
-  connect-quiet s (Connect c address) v e = quiet-heard (s .sheet) a j _ v (connect-sends-quiet (s .sheet) s c address)
-  connect-quiet s (Disconnect c) v e = absurd (true≢false (sym e))
-  connect-quiet s (Tick t) v e = absurd (true≢false (sym e))
-  connect-quiet s (Reading k r) v e = absurd (true≢false (sym e))
-  connect-quiet s (Log level logger said) v e = absurd (true≢false (sym e))
-  connect-quiet s (Line c line) v e = absurd (true≢false (sym e))
+  connect-heard s v = connect-only (λ action. heard (s .sheet) a j (perform (s .sheet) s action .sent) v ≡ v) a
+      (λ c address e. quiet-heard (s .sheet) a j _ v (connect-sends-quiet (s .sheet) s c address))
 
   -- one call
   heard-step : (s : State) (call : Call) (ms : List Message) → (connected s a ≡ true → standing (s .sheet) s a j ≡ viewBy (s .sheet) j ms noView) → connected (step s call .next) a ≡ true
@@ -175,7 +151,7 @@ module _ (a j : ℕ) (ha : a < 8) (hj : j < 32) where
 
       go : declined (s .sheet) s call ≡ 0 → connected (perform (s .sheet) s (call .action) .next) a ≡ true → (b : Bool) → isConnect a (call .action) ≡ b
           → standing (s .sheet) (perform (s .sheet) s (call .action) .next) a j ≡ viewBy (s .sheet) j (cond b [] ms ++ sentTo a w) noView
-      go z on true e = ap (viewOf (sensorOf (s .sheet) j)) (connect-pair s (call .action) e) ∙ sym (connect-quiet s (call .action) noView e)
+      go z on true e = ap (viewOf (sensorOf (s .sheet) j)) (connect-pair s (call .action) e) ∙ sym (connect-heard s noView (call .action) e)
       go z on false e = let k = perform-kept s (range-out s (accepted s call z .in-range)) a j ha hj (call .action) (accepted s call z .fits) e on in
           k .heard-is ∙ (ap (heard (s .sheet) a j w) (ih (k .before)) ∙ sym (view-append (s .sheet) j ms (sentTo a w) noView))
 

@@ -16,28 +16,34 @@ use Rattle.machine.specs.Requests.{Asked, Nothing, NotMessage, Reply, Un
 use Rattle.machine.specs.Declined.{Action, Connect, Disconnect, Tick, Reading, Log, Line}
 use Rattle.machine.specs.Machine.{perform, lineWork}
 use Rattle.machine.specs.TwoDevices.{isConnect, isDisconnect, clockBy}
-use Rattle.machine.proofs.TestLaws.{cond-cases}
+use Rattle.machine.proofs.TestLaws.{cond-cases, cond-either}
 use Rattle.machine.proofs.StateLaws.{client-connected, nobody-there}
 use Rattle.machine.proofs.StepLaws.{nameFor}
-use Rattle.machine.proofs.KeptLaws.{sampling-clients}
 use Rattle.machine.proofs.AnsweredLaws.{asksFor}
 
--- what is said of the state after a line: of the same state, of another log level, of one without clients, of one with a strategy set
+-- what is said of the state after a request: of the same state, of another log level, of one without clients; after a query, after a sampling
 pub answer-next : (P : Request → State → Type 0) (s : State) (c : ℕ) (m : Message)
-    → ((r : Request) → P r s) → ((l : ℕ) → P LogLevel (withLevel s l)) → ((b : Bool) (l : ℕ) → P Halt (emptied s b l)) → ((b : Bool) (l : ℕ) → P Restart (emptied s b l))
+    → ((r : Request) → same (nameFor r) (nameFor SensorSampling) ≡ false → P r s) → ((l : ℕ) → P LogLevel (withLevel s l))
+    → ((b : Bool) (l : ℕ) → P Halt (emptied s b l)) → ((b : Bool) (l : ℕ) → P Restart (emptied s b l))
+    → (eqb (length (m .args)) 1 ≡ true → P SensorSampling s)
     → (eqb (length (m .args)) 1 ≡ false → P SensorSampling (withPairs s (sampledPairs s c (listed (s .sheet) m) (strategyAsked (s .sheet) m))))
     → (r : Request) → P r (answer (s .sheet) s c r m .next)
 unfolding answer sampling
-answer-next P s c m kept levelled halted restarted set ClientList = kept ClientList
-answer-next P s c m kept levelled halted restarted set Halt = halted true (s .level)
-answer-next P s c m kept levelled halted restarted set Help = kept Help
-answer-next P s c m kept levelled halted restarted set LogLevel = levelled _
-answer-next P s c m kept levelled halted restarted set Restart = restarted false _
-answer-next P s c m kept levelled halted restarted set SensorList = kept SensorList
-answer-next P s c m kept levelled halted restarted set SensorSampling = cond-cases (λ (w : Work). P SensorSampling (w .next)) (eqb (length (m .args)) 1) _ _ (λ e. kept SensorSampling) set
-answer-next P s c m kept levelled halted restarted set SensorValue = kept SensorValue
-answer-next P s c m kept levelled halted restarted set VersionList = kept VersionList
-answer-next P s c m kept levelled halted restarted set Watchdog = kept Watchdog
+answer-next P s c m kept levelled halted restarted queried set ClientList = kept ClientList refl
+answer-next P s c m kept levelled halted restarted queried set Halt = halted true (s .level)
+answer-next P s c m kept levelled halted restarted queried set Help = kept Help refl
+answer-next P s c m kept levelled halted restarted queried set LogLevel = levelled _
+answer-next P s c m kept levelled halted restarted queried set Restart = restarted false _
+answer-next P s c m kept levelled halted restarted queried set SensorList = kept SensorList refl
+answer-next P s c m kept levelled halted restarted queried set SensorSampling = cond-cases (λ (w : Work). P SensorSampling (w .next)) (eqb (length (m .args)) 1) _ _ queried set
+answer-next P s c m kept levelled halted restarted queried set SensorValue = kept SensorValue refl
+answer-next P s c m kept levelled halted restarted queried set VersionList = kept VersionList refl
+answer-next P s c m kept levelled halted restarted queried set Watchdog = kept Watchdog refl
+
+-- sampling leaves the clients
+pub sampling-clients : (s : State) (c a : ℕ) (m : Message) → connected (sampling (s .sheet) s c m .next) a ≡ connected s a
+unfolding sampling
+sampling-clients s c a m = cond-either (λ (w : Work). connected (w .next) a ≡ connected s a) (eqb (length (m .args)) 1) _ _ refl refl
 
 -- over what a line asks
 pub line-next : (P : State → Type 0) (s : State) (c : ℕ) (w : Asked) → P s → ((r : Request) (m : Message) → w ≡ Asks r m → P (answer (s .sheet) s c r m .next)) → P (lineWork (s .sheet) s c w .next)
@@ -57,12 +63,12 @@ perform-sheet s (Tick t) = refl
 perform-sheet s (Reading j r) = refl
 perform-sheet s (Log level logger said) = refl
 perform-sheet s (Line c line) = line-next (λ n. n .sheet ≡ s .sheet) s c (asked line) refl
-    (λ r m e. answer-next (λ r n. n .sheet ≡ s .sheet) s c m (λ r. refl) (λ l. refl) (λ b l. refl) (λ b l. refl) (λ e. refl) r)
+    (λ r m e. answer-next (λ r n. n .sheet ≡ s .sheet) s c m (λ r e. refl) (λ l. refl) (λ b l. refl) (λ b l. refl) (λ e. refl) (λ e. refl) r)
 
 -- readings and clock stay in a line
 pub line-keeps : (s : State) (c : ℕ) (line : List ℕ) → (lineWork (s .sheet) s c (asked line) .next .readings ≡ s .readings) × (lineWork (s .sheet) s c (asked line) .next .clock ≡ s .clock)
 line-keeps s c line = line-next (λ n. (n .readings ≡ s .readings) × (n .clock ≡ s .clock)) s c (asked line) (refl, refl)
-    (λ r m e. answer-next (λ r n. (n .readings ≡ s .readings) × (n .clock ≡ s .clock)) s c m (λ r. (refl, refl)) (λ l. (refl, refl)) (λ b l. (refl, refl)) (λ b l. (refl, refl)) (λ e. (refl, refl)) r)
+    (λ r m e. answer-next (λ r n. (n .readings ≡ s .readings) × (n .clock ≡ s .clock)) s c m (λ r e. (refl, refl)) (λ l. (refl, refl)) (λ b l. (refl, refl)) (λ b l. (refl, refl)) (λ e. (refl, refl)) (λ e. (refl, refl)) r)
 
 pub perform-clock : (s : State) (action : Action) → perform (s .sheet) s action .next .clock ≡ clockBy action (s .clock)
 unfolding perform withClient withReading

@@ -14,11 +14,13 @@ use Rattle.machine.specs.Places.{allBelow}
 use Rattle.machine.specs.Sheet.{sensorOf, textOk, choiceNone, limitsNone, sensorNone, distinct, sensorsOk, titlesNone, titlesOk, sheetOk}
 use Rattle.machine.specs.State.{noStored, noSubscription, noClient, connected, blankClient, blankSheet, freshReadings, fresh, blank}
 use Rattle.machine.specs.Range.{sampleOk, storedOk, storedNone, storedOkAt, clientOk, pairOkAt, noClients, isBlank}
-use Rattle.machine.specs.Opening.{Taken, broken, taken, sheetAt, refused, accepted, opened}
-use Rattle.machine.proofs.TestLaws.{and-true, and-in, or-in}
+use Rattle.machine.specs.Opening.{Taken, broken, taken, sheetAt, accepted, opened}
+use Rattle.machine.proofs.TestLaws.{and-true, and-in, or-in, cond-cases}
 use Rattle.machine.proofs.PlacesLaws.{below-at, getD-tabulate, getD-replicate-same, replicate-either}
 use Rattle.machine.proofs.RangeLaws.{InRange}
 use Rattle.machine.proofs.PairRange.{pairFits, pair-of-no-subscription}
+use Rattle.machine.specs.declared.Opened.{Opened}
+use Rattle.machine.specs.declared.State.{State}
 
 -- Nobody is connected, and no pair is set.
 
@@ -79,15 +81,15 @@ module _ (sheet : Sheet) where
     pair-in = λ p h. no-pair-in sheet 0 (connected (fresh sheet) (p / 32)) p;
   }
 
-pub opened-range : (bytes : List ℕ) → InRange (opened bytes .state)
+-- an opened state is a fresh one or the blank one
+pub opened-either : (P : State → Type 0) (bytes : List ℕ) → ((sheet : Sheet) → sheetOk sheet ≡ true → P (fresh sheet)) → P blank → P (opened bytes .state)
 unfolding opened
-opened-range bytes = go (sheetAt bytes)
+opened-either P bytes new old = go (sheetAt bytes)
   where
-    ruled : (sheet : Sheet) (b : Bool) → sheetOk sheet ≡ b → InRange (cond b (record { number = 0; state = fresh sheet }) refused .state)
-    ruled sheet true e = fresh-range sheet e
-    ruled sheet false e = blank-range
+    go : (t : Taken Sheet) → P (accepted t .state)
+    go broken = old
+    go (taken sheet []) = cond-cases (λ (o : Opened). P (o .state)) (sheetOk sheet) _ _ (new sheet) (λ e. old)
+    go (taken sheet (b ∷ rest)) = old
 
-    go : (t : Taken Sheet) → InRange (accepted t .state)
-    go broken = blank-range
-    go (taken sheet []) = ruled sheet (sheetOk sheet) refl
-    go (taken sheet (b ∷ rest)) = blank-range
+pub opened-range : (bytes : List ℕ) → InRange (opened bytes .state)
+opened-range bytes = opened-either InRange bytes fresh-range blank-range

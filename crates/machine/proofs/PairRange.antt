@@ -2,22 +2,20 @@
 use Prim.Native.Nat.{ℕ, _+_, _*_, _/_, _%_, _≤_, _<_}
 use native.Mathlib.Omega.{arith}
 use mathlib.Core.Path.{_≡_, refl, ap, sym, subst}
-use mathlib.Core.Bool.{Bool, true, not, _&&_, _||_, true≢false}
+use mathlib.Core.Bool.{Bool, true, not, _&&_, _||_}
 use lib.Dec.{eqb, leb, ltb}
 use borrow.Author.Tests.{leb-true, le-leb}
 use Rattle.machine.specs.declared.Sensor.{Sensor}
 use Rattle.machine.specs.declared.Sheet.{Sheet}
 use Rattle.machine.specs.declared.Strategy.{Strategy}
-use Rattle.machine.specs.declared.Strategy.the-variants.{None, Auto, Period, Event, Differential, EventRate, DifferentialRate}
 use Rattle.machine.specs.declared.Subscription.{Subscription}
 use Rattle.machine.specs.Sheet.{sensorOf}
 use Rattle.machine.specs.State.{noSubscription, pairOf, connected}
 use Rattle.machine.specs.Range.{sampleOk, sampleNone, strategyOk, isNone, pairNone, pairReported, pairOkAt}
 use Rattle.machine.proofs.TestLaws.{and-true, and-in, or-true, or-in}
 use Rattle.machine.specs.declared.State.{State}
-use Rattle.machine.proofs.RangeLaws.{InRange}
+use Rattle.machine.proofs.RangeLaws.{InRange, none-is, sensors-of}
 use Rattle.machine.proofs.StateLaws.{place-sensor}
-use Rattle.machine.proofs.SheetLaws.{sensors-out}
 
 -- what `pairOkAt` tests of the subscription at place p, of a client that is there or not
 abbrev pub pairFits : Sheet → ℕ → Bool → ℕ → Subscription → Bool
@@ -78,14 +76,8 @@ pair-later sheet clock t there p x l h = pair-cases _ sheet clock there p x h (p
     (λ a b r. pair-of-report sheet t there p x a b (record { has-report = r .has-report; strategy-fits = r .strategy-fits; value-fits = r .value-fits; not-later = omega (arith, r .not-later) }))
 
 none-suits : (t : ℕ) (st : Strategy) → isNone st ≡ true → strategyOk t st ≡ true
-unfolding isNone strategyOk
-none-suits t None h = refl
-none-suits t Auto h = refl
-none-suits t (Period p) h = absurd (true≢false (sym h))
-none-suits t Event h = refl
-none-suits t (Differential d) h = absurd (true≢false (sym h))
-none-suits t (EventRate a b) h = absurd (true≢false (sym h))
-none-suits t (DifferentialRate d a b) h = absurd (true≢false (sym h))
+unfolding strategyOk
+none-suits t st h = subst (λ k. strategyOk t k ≡ true) (sym (none-is st h)) refl
 
 -- the strategy that a pair has suits its sensor
 pub pair-suits : (sheet : Sheet) (clock : ℕ) (there : Bool) (p : ℕ) (x : Subscription) → pairFits sheet clock there p x ≡ true
@@ -103,4 +95,4 @@ held-suits s r c j hc hj = subst (λ i. strategyOk (sensorOf (s .sheet) i .kind)
     (pair-suits (s .sheet) (s .clock) (connected s ((c * 32 + j) / 32)) (c * 32 + j) (pairOf s c j) (r .pair-in (c * 32 + j) (omega (arith, l, hc))))
   where
     l : j < 32
-    l = omega (arith, sensors-out (s .sheet) (r .sensors-in) .count-most)
+    l = omega (arith, sensors-of s r .count-most)

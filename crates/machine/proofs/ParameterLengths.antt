@@ -13,10 +13,11 @@ use Rattle.machine.specs.declared.Sensor.{Sensor}
 use Rattle.machine.specs.declared.Strategy.{Strategy}
 use Rattle.machine.specs.declared.Strategy.the-variants.{None, Auto, Period, Event, Differential, EventRate, DifferentialRate}
 use Rattle.machine.specs.Places.{Each}
-use Rattle.machine.specs.Range.{periodOk, ratesOk, differenceOk, strategyOk}
+use Rattle.machine.specs.Range.{ratesOk, differenceOk, strategyOk}
 use Rattle.machine.specs.Messages.{differenceText, parameterTexts}
 use Rattle.machine.proofs.TestLaws.{and-true}
 use Rattle.machine.proofs.LineLengths.{argsMost, args-short}
+use Rattle.machine.proofs.ParameterRange.{period-most, rates-most}
 
 -- the largest difference of a sensor
 abbrev largest : Bool → ℕ
@@ -48,12 +49,6 @@ few n (DifferentialRate d a b) = omega arith
 
 brief-most : (n : Sensor) (st : Strategy) → Brief n st → argsMost (parameterTexts n st) ≤ 93
 brief-most n st h = omega (arith, args-short 14 (parameterTexts n st) h, few n st)
-
-period-most : (p : ℕ) → periodOk p ≡ true → p ≤ 86400000
-period-most p h = leb-true p 86400000 (and-true (leb 1 p) (leb p 86400000) h .1)
-
-rates-most : (a b : ℕ) → ratesOk a b ≡ true → (a ≤ 86400000) × (b ≤ 86400000)
-rates-most a b h = let q = and-true (leb a b) (periodOk b) h in (omega (arith, leb-true a b (q .0), period-most b (q .1)), period-most b (q .1))
 
 difference-most : (n : Sensor) (d : ℕ) → differenceOk (n .kind) d ≡ true → d ≤ largest (eqb (n .kind) 1)
 unfolding differenceOk

@@ -15,14 +15,10 @@ use Rattle.machine.specs.declared.Sensor.{Sensor}
 use Rattle.machine.specs.declared.Sheet.{Sheet}
 use Rattle.machine.specs.Places.{any, has}
 use Rattle.machine.specs.Sheet.{sensorOf}
-use Rattle.machine.specs.Range.{periodOk, differenceOk}
+use Rattle.machine.specs.Range.{periodOk, differenceOk, ratesOk}
 use Rattle.machine.specs.Requests.{isBad, numberOf, firstOf, differenceFor, differenceOf}
 use Rattle.machine.proofs.TestLaws.{and-true, and-in}
-use Rattle.machine.proofs.PlacesLaws.{each-has, each-any-false}
-
--- a test that fails at each number of a list
-pub none-has : (f : ℕ → Bool) (js : List ℕ) (j : ℕ) → any f js ≡ false → has j js ≡ true → f j ≡ false
-none-has f js j h k = each-has (λ j. f j ≡ false) j js (each-any-false f js h) k
+use Rattle.machine.proofs.PlacesLaws.{none-has}
 
 -- a parameter that is not bad passed its test
 passed-test : (b : Bool) (n : ℕ) → isBad (cond b (Is n) Bad) ≡ false → (b ≡ true) × (numberOf (cond b (Is n) Bad) ≡ n)
@@ -44,6 +40,12 @@ decimal-out k least most t h =
     record { digits = leb-true (length (fraction t)) k (b .0); lower = leb-true least (units k t) (c .0); upper = leb-true (units k t) most (c .1) }
 
 -- Periods.
+
+pub period-most : (p : ℕ) → periodOk p ≡ true → p ≤ 86400000
+period-most p h = leb-true p 86400000 (and-true (leb 1 p) (leb p 86400000) h .1)
+
+pub rates-most : (a b : ℕ) → ratesOk a b ≡ true → (a ≤ 86400000) × (b ≤ 86400000)
+rates-most a b h = let q = and-true (leb a b) (periodOk b) h in (omega (arith, leb-true a b (q .0), period-most b (q .1)), period-most b (q .1))
 
 pub period-fits : (t : List ℕ) → isBad (periodOf t) ≡ false → periodOk (numberOf (periodOf t)) ≡ true
 unfolding periodOf

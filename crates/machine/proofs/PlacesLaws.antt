@@ -2,14 +2,15 @@
 use Prim.Native.Nat.{ℕ, zero, suc, _+_, _*_, _≤_, _<_}
 use native.Mathlib.Omega.{arith}
 use mathlib.Core.Path.{_≡_, refl, ap, sym, _∙_}
-use mathlib.Core.Bool.{Bool, true, false, cond, true≢false}
+use mathlib.Core.Bool.{Bool, true, false, cond, true≢false, _||_}
 use mathlib.Core.List.{List, [], _∷_, _++_, map}
 use lib.Dec.{eqb, ltb}
 use lib.ListN.{length, getD, replicate, length-append, List·getD-append}
 use lib.Seq.{getD-append-seam}
 use borrow.Author.Tests.{ltb-true, ltb-false, eqb-true}
 use Rattle.machine.specs.Places.{tabulate, gather, oneIf, any, allBelow, firstBelow, has, Each}
-use Rattle.machine.proofs.TestLaws.{and-true, and-in, or-false, or-true}
+use Rattle.machine.proofs.TestLaws.{and-true, and-in, or-false, or-true, or-in, eqb-refl}
+use Rattle.output.specs.Text.{all}
 
 module _ {A : Type 0} (f : ℕ → A) where
   pub length-tabulate : (n : ℕ) → length (tabulate f n) ≡ n
@@ -140,3 +141,17 @@ pub each-has : (P : ℕ → Type 0) (j : ℕ) (js : List ℕ) → Each P js → 
 unfolding has any
 each-has P j [] h t = absurd (true≢false (sym t))
 each-has P j (k ∷ ks) h t = or-true (P j) (eqb j k) (has j ks) t (λ e. rw (eqb-true j k e) (h .0)) (λ e. each-has P j ks (h .1) e)
+
+-- a test that fails at each number of a list
+pub none-has : (f : ℕ → Bool) (js : List ℕ) (j : ℕ) → any f js ≡ false → has j js ≡ true → f j ≡ false
+none-has f js j h k = each-has (λ j. f j ≡ false) j js (each-any-false f js h) k
+
+pub all-of : (f : ℕ → Bool) (js : List ℕ) → ((j : ℕ) → has j js ≡ true → f j ≡ true) → all f js ≡ true
+unfolding has any
+all-of f [] h = refl
+all-of f (j ∷ js) h = and-in (f j) (all f js) (h j (ap (λ b. b || has j js) (eqb-refl j))) (all-of f js (λ i k. h i (or-in (eqb i j) (has i js) k)))
+
+pub each-tabulate : {A : Type 0} (P : A → Type 0) (f : ℕ → A) (n : ℕ) → ((i : ℕ) → i < n → P (f i)) → Each P (tabulate f n)
+unfolding tabulate
+each-tabulate P f zero h = tt
+each-tabulate P f (suc n) h = each-append P (tabulate f n) (f n ∷ []) (each-tabulate P f n (λ i k. h i (omega arith))) (h n (omega arith), tt)

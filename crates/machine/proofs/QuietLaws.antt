@@ -1,9 +1,8 @@
 -- Messages that tell the reader nothing.
 use Prim.Native.Nat.{ℕ}
-use mathlib.Core.Path.{_≡_, refl, ap, sym, _∙_}
+use mathlib.Core.Path.{_≡_, refl, ap, _∙_}
 use mathlib.Core.Bool.{Bool, true, false, cond, not, _&&_, _||_, true≢false}
 use mathlib.Core.List.{List, [], _∷_, map}
-use mathlib.Core.Option.{some}
 use lib.Dec.{eqb, leb, ltb}
 use Rattle.output.specs.Text.{text, same}
 use Rattle.message.specs.Message.{Message}
@@ -16,13 +15,13 @@ use Rattle.machine.specs.Places.{Each}
 use Rattle.machine.specs.Sheet.{sensorOf}
 use Rattle.machine.specs.State.{connected, startLevel}
 use Rattle.machine.specs.Messages
-use Rattle.machine.specs.Requests.{endConnections, requestNamed, Asked, Nothing, NotMessage, Reply, Unknown, Asks, asked, askedPlaces, helpNames, addresses, levelAsked, answer}
+use Rattle.machine.specs.Requests.{endConnections, Asked, Nothing, NotMessage, Reply, Unknown, Asks, asked, askedPlaces, helpNames, addresses, levelAsked, answer}
 use Rattle.machine.specs.Declined.{Action, Connect, Disconnect, Tick, Reading, Log, Line, lineRefusal, refusal}
 use Rattle.machine.specs.Machine.{connectSends, entries}
 use Rattle.machine.specs.Reader.{Other, samplingNews, news}
-use Rattle.machine.proofs.TestLaws.{cond-false}
+use Rattle.machine.proofs.TestLaws.{cond-false, cond-either}
 use Rattle.machine.proofs.PlacesLaws.{each-append, each-gather, each-one, each-map}
-use Rattle.machine.proofs.StepLaws.{nameFor, request-name}
+use Rattle.machine.proofs.StepLaws.{nameFor}
 
 -- a delivery that tells nothing
 abbrev pub Silent : Sheet → Delivery → Type 0
@@ -50,19 +49,6 @@ entries-quiet sheet s level logger said = go (leb level (s .level))
 
 -- Answers.
 
--- a request of sampling
-abbrev pub isSampling : Request → Bool
-isSampling ClientList = false
-isSampling Halt = false
-isSampling Help = false
-isSampling LogLevel = false
-isSampling Restart = false
-isSampling SensorList = false
-isSampling SensorSampling = true
-isSampling SensorValue = false
-isSampling VersionList = false
-isSampling Watchdog = false
-
 -- a reply under another name than that of sampling
 reply-quiet : (sheet : Sheet) (m : Message) (args : List (List ℕ)) → same (m .name) (text "sensor-sampling") ≡ false → news sheet (Messages.reply m args) ≡ Other
 unfolding news
@@ -77,56 +63,36 @@ every : {A B : Type 0} (P : B → Type 0) (f : A → B) (xs : List A) → ((x : 
 every P f [] h = tt
 every P f (x ∷ xs) h = (h x, every P f xs h)
 
--- the name of a request in the table, by the row that has it
-row-other : (t : List ℕ) (r : Request) → requestNamed t ≡ some r → same t (text "sensor-sampling") ≡ false → same (nameFor r) (text "sensor-sampling") ≡ false
-row-other t r e h = ap (λ t. same t (text "sensor-sampling")) (sym (request-name t r e)) ∙ h
-
-other-name : (r : Request) → isSampling r ≡ false → same (nameFor r) (text "sensor-sampling") ≡ false
-unfolding requestNamed
-other-name ClientList h = row-other (text "client-list") ClientList refl refl
-other-name Halt h = row-other (text "halt") Halt refl refl
-other-name Help h = row-other (text "help") Help refl refl
-other-name LogLevel h = row-other (text "log-level") LogLevel refl refl
-other-name Restart h = row-other (text "restart") Restart refl refl
-other-name SensorList h = row-other (text "sensor-list") SensorList refl refl
-other-name SensorSampling h = absurd (true≢false h)
-other-name SensorValue h = row-other (text "sensor-value") SensorValue refl refl
-other-name VersionList h = row-other (text "version-list") VersionList refl refl
-other-name Watchdog h = row-other (text "watchdog") Watchdog refl refl
-
 module _ (sheet : Sheet) (s : State) (c : ℕ) (m : Message) (other : same (m .name) (text "sensor-sampling") ≡ false) where
   informs-quiet : {A : Type 0} (f : A → Message) (xs : List A) → ((x : A) → news sheet (f x) ≡ Other) → Quiet sheet (Messages.countedAnswer c m (map f xs))
   informs-quiet f xs k = counted-quiet sheet c m (map f xs) other (every (λ m. news sheet m ≡ Other) f xs k)
 
-  farewell-quiet : (why : List ℕ) (halted : Bool) (level : ℕ) → Quiet sheet (endConnections s c m why halted level .sent)
+  ending-quiet : (why : List ℕ) (halted : Bool) (level : ℕ) → Quiet sheet (endConnections s c m why halted level .sent)
   unfolding news
-  farewell-quiet why halted level = (reply-quiet sheet m (text "ok" ∷ []) other, where-quiet sheet (connected s) (Messages.disconnect why) refl)
+  ending-quiet why halted level = (reply-quiet sheet m (text "ok" ∷ []) other, where-quiet sheet (connected s) (Messages.disconnect why) refl)
 
-  by-request : (r : Request) → isSampling r ≡ false → Quiet sheet (answer sheet s c r m .sent)
+  by-request : (r : Request) → same (nameFor r) (nameFor SensorSampling) ≡ false → Quiet sheet (answer sheet s c r m .sent)
   unfolding answer news Messages.sensorInform Messages.valueInform
   by-request ClientList h = informs-quiet (Messages.clientInform (m .id)) (addresses s) (λ x. refl)
-  by-request Halt h = farewell-quiet (text "Device halting.") true (s .level)
+  by-request Halt h = ending-quiet (text "Device halting.") true (s .level)
   by-request Help h = informs-quiet (Messages.helpInform (m .id)) (helpNames m) (λ x. refl)
   by-request LogLevel h = (reply-quiet sheet m (text "ok" ∷ Messages.levelText (levelAsked s m) ∷ []) other, tt)
-  by-request Restart h = farewell-quiet (text "Device restarting.") false startLevel
+  by-request Restart h = ending-quiet (text "Device restarting.") false startLevel
   by-request SensorList h = informs-quiet (λ j. Messages.sensorInform (m .id) (sensorOf sheet j)) (askedPlaces sheet m) (λ x. refl)
   by-request SensorSampling h = absurd (true≢false h)
   by-request SensorValue h = informs-quiet (Messages.valueInform (m .id) s sheet) (askedPlaces sheet m) (λ x. refl)
   by-request VersionList h = informs-quiet (Messages.versionInform (m .id)) (Messages.protocolArgs ∷ Messages.deviceArgs sheet ∷ []) (λ x. refl)
   by-request Watchdog h = (reply-quiet sheet m (text "ok" ∷ []) other, tt)
 
-pub answer-quiet : (sheet : Sheet) (s : State) (c : ℕ) (r : Request) (m : Message) → m .name ≡ nameFor r → isSampling r ≡ false → Quiet sheet (answer sheet s c r m .sent)
-answer-quiet sheet s c r m e h = by-request sheet s c m (ap (λ t. same t (text "sensor-sampling")) e ∙ other-name r h) r h
+pub answer-quiet : (sheet : Sheet) (s : State) (c : ℕ) (r : Request) (m : Message) → m .name ≡ nameFor r → same (nameFor r) (nameFor SensorSampling) ≡ false
+    → Quiet sheet (answer sheet s c r m .sent)
+answer-quiet sheet s c r m e h = by-request sheet s c m (ap (λ t. same t (nameFor SensorSampling)) e ∙ h) r h
 
 -- Refusals.
 
 -- "fail" and "invalid" are not "ok"
-code-not-ok : (n : ℕ) → same (Messages.refusalCode n) (text "ok") ≡ false
-code-not-ok n = go (eqb n 16 || (eqb n 18 || eqb n 23))
-  where
-    go : (b : Bool) → same (cond b (text "fail") (text "invalid")) (text "ok") ≡ false
-    go true = refl
-    go false = refl
+pub code-not-ok : (n : ℕ) → same (Messages.refusalCode n) (text "ok") ≡ false
+code-not-ok n = cond-either (λ t. same t (text "ok") ≡ false) (eqb n 16 || (eqb n 18 || eqb n 23)) (text "fail") (text "invalid") refl refl
 
 refused-quiet : (sheet : Sheet) (m : Message) (n : ℕ) → news sheet (Messages.refusalReply m n) ≡ Other
 unfolding news

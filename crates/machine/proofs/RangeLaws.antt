@@ -1,7 +1,7 @@
 -- The state check as facts, both ways.
 use Prim.Native.Nat.{ℕ, _≤_, _<_}
-use mathlib.Core.Path.{_≡_, sym, _∙_}
-use mathlib.Core.Bool.{true, cond, _||_}
+use mathlib.Core.Path.{_≡_, sym, _∙_, refl}
+use mathlib.Core.Bool.{true, cond, _||_, true≢false}
 use lib.Dec.{leb, ltb}
 use borrow.Author.Tests.{leb-true, le-leb, lt-ltb}
 use Rattle.output.specs.Read.{inTime}
@@ -9,9 +9,12 @@ use Rattle.machine.specs.declared.State.{State}
 use Rattle.machine.specs.Places.{allBelow}
 use Rattle.machine.specs.Sheet.{sensorOf, sensorsOk, titlesOk}
 use Rattle.machine.specs.State.{clientOf, storedOf, present}
-use Rattle.machine.specs.Range.{sampleOk, clientOk, storedOk, storedNone, storedOkAt, pairOkAt, isBlank, inRange}
+use Rattle.machine.specs.Range.{sampleOk, clientOk, storedOk, storedNone, storedOkAt, pairOkAt, isBlank, inRange, isNone}
 use Rattle.machine.proofs.TestLaws.{and-true, and-in, cond-true}
 use Rattle.machine.proofs.PlacesLaws.{below-at, below-of}
+use Rattle.machine.specs.declared.Strategy.{Strategy}
+use Rattle.machine.specs.declared.Strategy.the-variants.{None, Auto, Period, Event, Differential, EventRate, DifferentialRate}
+use Rattle.machine.proofs.SheetLaws.{Sensors, sensors-out}
 
 pub record InRange (s : State) : Type 0 where
   pub titles-in : (titlesOk (s .sheet) || isBlank s) ≡ true
@@ -61,3 +64,16 @@ stored-is s r j h k = let q = and-true (sampleOk (sensorOf (s .sheet) j) (presen
     there : cond (ltb j (s .sheet .count)) (storedOk (s .clock) (sensorOf (s .sheet) j) (storedOf s j)) (storedNone (storedOf s j)) ≡ true
         → storedOk (s .clock) (sensorOf (s .sheet) j) (storedOf s j) ≡ true
     there t = sym (cond-true (ltb j (s .sheet .count)) (storedOk (s .clock) (sensorOf (s .sheet) j) (storedOf s j)) (storedNone (storedOf s j)) (lt-ltb j (s .sheet .count) h)) ∙ t
+
+pub none-is : (st : Strategy) → isNone st ≡ true → st ≡ None
+unfolding isNone
+none-is None e = refl
+none-is Auto e = absurd (true≢false (sym e))
+none-is (Period p) e = absurd (true≢false (sym e))
+none-is Event e = absurd (true≢false (sym e))
+none-is (Differential d) e = absurd (true≢false (sym e))
+none-is (EventRate a b) e = absurd (true≢false (sym e))
+none-is (DifferentialRate d a b) e = absurd (true≢false (sym e))
+
+pub sensors-of : (s : State) → InRange s → Sensors (s .sheet)
+sensors-of s r = sensors-out (s .sheet) (r .sensors-in)

@@ -25,8 +25,8 @@ use Rattle.machine.specs.Machine.{sampleIn, sampleGiven}
 use Rattle.machine.specs.Reader.{validStatus}
 use Rattle.machine.proofs.TestLaws.{and-true}
 use Rattle.machine.proofs.StateLaws.{stored-after}
-use Rattle.machine.proofs.SheetLaws.{SensorRules, sensors-out}
-use Rattle.machine.proofs.RangeLaws.{InRange, stored-is}
+use Rattle.machine.proofs.SheetLaws.{SensorRules}
+use Rattle.machine.proofs.RangeLaws.{InRange, stored-is, sensors-of}
 
 -- Numbers.
 
@@ -114,7 +114,7 @@ pub record Reportable (s : State) : Type 0 where
 
 module _ (s : State) (r : InRange s) where
   below-most : (j : ℕ) → j < s .sheet .count → j < 32
-  below-most j l = omega (arith, sensors-out (s .sheet) (r .sensors-in) .count-most)
+  below-most j l = omega (arith, sensors-of s r .count-most)
 
   pub reportable : Reportable s
   reportable = record { clock-fits = r .clock-in; present-fits = λ j l. stored-is s r j l (below-most j l) .0 }

@@ -17,17 +17,13 @@ use Rattle.machine.specs.Sheet.{sensorOf, notOnSheet, placeOf}
 use Rattle.machine.specs.Range.{periodOk, ratesOk, differenceOk, strategyOk}
 use Rattle.machine.specs.Requests.{listed, byDifference, parameterCount, isBad, numberOf, differenceOf, parametersOf, strategyBy, shortestOverLongest, kindAsked, parametersAsked, strategyAsked, split, before, argument}
 use Rattle.machine.specs.Declined.{settingDeclined, samplingDeclined}
-use Rattle.machine.proofs.TestLaws.{and-in, and-false, or-false, or-in, passed, cond-false, eqb-refl}
+use Rattle.machine.proofs.TestLaws.{and-in, and-false, or-false, passed, cond-false, eqb-refl}
 use Rattle.machine.proofs.SheetLaws.{Sensors}
-use Rattle.machine.proofs.ParameterRange.{none-has, period-fits, differences-fit}
+use Rattle.machine.proofs.ParameterRange.{period-fits, differences-fit}
 use Prim.Native.Char.{code}
+use Rattle.machine.proofs.PlacesLaws.{all-of, none-has}
 
 -- a test that holds at each number of a list
-pub all-of : (f : ℕ → Bool) (js : List ℕ) → ((j : ℕ) → has j js ≡ true → f j ≡ true) → all f js ≡ true
-unfolding has any
-all-of f [] h = refl
-all-of f (j ∷ js) h = and-in (f j) (all f js) (h j (ap (λ b. b || has j js) (eqb-refl j))) (all-of f js (λ i k. h i (or-in (eqb i j) (has i js) k)))
-
 -- Strategies.
 
 -- shortest and longest

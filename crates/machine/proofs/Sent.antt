@@ -23,21 +23,21 @@ use Rattle.machine.specs.Sheet.{sensorOf, graphic, nameByte}
 use Rattle.machine.specs.State.{present, connected, pairAt, withClock, withReading}
 use Rattle.machine.specs.Range.{sampleOk, inRange}
 use Rattle.machine.specs.Messages.{clientConnected, logEntry, toAll}
-use Rattle.machine.specs.Report.{dueAt, pairSends, visit}
+use Rattle.machine.specs.Report.{dueAt, pairSends, visit, Work}
 use Rattle.machine.specs.Requests.{Asked, Nothing, NotMessage, Reply, Unknown, Asks, asked}
 use Rattle.machine.specs.Declined.{Action, Connect, Disconnect, Tick, Reading, Log, Line, Call, clientDeclined, addressFits, tickFits, entryFits, entryByte, lineDeclined, actionDeclined, declined, lineRefusal, refusal}
-use Rattle.machine.specs.Machine.{Effect, sampleGiven, connectSends, entries, lineWork, perform, step}
+use Rattle.machine.specs.Machine.{Effect, sampleGiven, connectSends, entries, perform, step}
 use Rattle.machine.specs.Claims.{Fits, SentReadsBack}
 use Rattle.machine.proofs.TestLaws.{and-true, fitted}
 use Rattle.machine.proofs.PlacesLaws.{each-gather, each-one, each-weaker, gather-length}
 use Rattle.machine.proofs.StateLaws.{due-below}
 use Rattle.machine.proofs.SheetLaws.{Sensors}
-use Rattle.machine.proofs.RangeLaws.{InRange, range-out}
-use Rattle.machine.proofs.StepLaws.{by-cases, accepted, declined-in-range, client-fits, asks-is, unknown-is}
+use Rattle.machine.proofs.RangeLaws.{InRange, range-out, sensors-of}
+use Rattle.machine.proofs.StepLaws.{by-cases, accepted, declined-in-range, client-fits, asks-is, unknown-is, by-asking}
 use Rattle.machine.proofs.SampleRange.{given-fits, Reportable, reportable-tick, reportable-reading}
 use Rattle.machine.proofs.DeliveryLengths.{Served, served, length-line, Sendable, sendable, nothing-sent, one-sent, one-length, where-length, served-where}
 use Rattle.machine.proofs.SentSizes.{sound-protocol, sound-device, sound-newcomer, sound-entry, sound-report, sound-refusal, sound-refusal-entry}
-use Rattle.machine.proofs.SentAnswers.{sensors-of, titles-short, answer-sent}
+use Rattle.machine.proofs.SentAnswers.{titles-short, answer-sent}
 
 -- Reports of a visit.
 
@@ -109,20 +109,6 @@ module _ (s : State) (g : InRange s) where
           (served-where 1300 (connected s) entry (sound-entry level (s .clock) logger said (g .clock-in) (most .0) (most .1)))
       go false = nothing-sent
 
-  line-sent : (c : ℕ) (line : List ℕ) → actionDeclined (s .sheet) s (Line c line) ≡ 0 → Sendable (lineWork (s .sheet) s c (asked line) .sent)
-  unfolding actionDeclined lineWork
-  line-sent c line h = go (asked line) refl (a .1 .1)
-    where
-      a : (c < 8) × ((not (connected s c) ≡ false) × (lineDeclined (s .sheet) (asked line) ≡ 0))
-      a = client-fits (not (connected s c)) c (lineDeclined (s .sheet) (asked line)) h
-
-      go : (q : Asked) → asked line ≡ q → lineDeclined (s .sheet) q ≡ 0 → Sendable (lineWork (s .sheet) s c q .sent)
-      go Nothing e k = nothing-sent
-      go NotMessage e k = nothing-sent
-      go Reply e k = nothing-sent
-      go (Unknown m) e k = nothing-sent
-      go (Asks q m) e k = answer-sent s g c (a .0) m (parsed-head line m (asks-is line q m e .parsed)) q k
-
   perform-sent : (action : Action) → actionDeclined (s .sheet) s action ≡ 0 → Sendable (perform (s .sheet) s action .sent)
   unfolding perform
   perform-sent (Connect c address) h = connect-sent c address h
@@ -130,7 +116,8 @@ module _ (s : State) (g : InRange s) where
   perform-sent (Tick t) h = tick-sent t h
   perform-sent (Reading j r) h = reading-sent j (sampleGiven (sensorOf (s .sheet) j) r) (given-fits (sensorOf (s .sheet) j) r)
   perform-sent (Log level logger said) h = log-sent level logger said h
-  perform-sent (Line c line) h = line-sent c line h
+  perform-sent (Line c line) h = by-asking (λ (w : Work). Sendable (w .sent)) s c line h nothing-sent
+      (λ q m k. answer-sent s g c (k .client) m (parsed-head line m (k .request .parsed)) q (k .arguments))
 
 -- A call that is declined.
 

@@ -4,7 +4,7 @@ use native.Mathlib.Nat.{le-trans}
 use native.Mathlib.Omega.{arith}
 use mathlib.Core.Path.{_≡_, refl, sym, _∙_, subst}
 use mathlib.Core.Option.{some}
-use mathlib.Core.Bool.{Bool, true, false, cond, not, _&&_}
+use mathlib.Core.Bool.{Bool, true, false, cond, _&&_}
 use mathlib.Core.List.{List, [], _∷_, map}
 use lib.Dec.{eqb, ltb}
 use lib.ListN.{length, getD, length-map}
@@ -25,12 +25,12 @@ use Rattle.machine.specs.State.{clientOf, connected, addressOf, pairOf, 
 use Rattle.machine.specs.Range.{clientOk, isNone, isBlank}
 use Rattle.machine.specs.Messages
 use Rattle.machine.specs.Report.{Work}
-use Rattle.machine.specs.Requests.{Row, requests, requestIn, requestNamed, Asks, argument, allPlaces, askedPlaces, helpNames, listed, firstOf, strategyAsked, levelAsked, sampledSends, addresses, sampling, answer}
-use Rattle.machine.specs.Declined.{countFits, sensorsDeclined, helpDeclined, samplingDeclined, argumentsDeclined, lineDeclined}
+use Rattle.machine.specs.Requests.{Row, requests, requestIn, requestNamed, argument, allPlaces, askedPlaces, helpNames, listed, firstOf, strategyAsked, levelAsked, sampledSends, addresses, sampling, answer}
+use Rattle.machine.specs.Declined.{sensorsDeclined, helpDeclined, samplingDeclined, argumentsDeclined}
 use Rattle.machine.proofs.TestLaws.{and-true, or-true, cond-true, cond-cases, passed}
 use Rattle.machine.proofs.PlacesLaws.{length-tabulate, each-gather, each-one, each-weaker, each-any-false, each-map, gather-length}
-use Rattle.machine.proofs.SheetLaws.{text-out, Sensors, sensors-out, places-below}
-use Rattle.machine.proofs.RangeLaws.{InRange, stored-is}
+use Rattle.machine.proofs.SheetLaws.{text-out, Sensors, places-below}
+use Rattle.machine.proofs.RangeLaws.{InRange, stored-is, sensors-of}
 use Rattle.machine.proofs.SamplingLaws.{listed-known, listed-below, setting-suits, first-listed}
 use Rattle.machine.proofs.PairRange.{held-suits}
 use Rattle.machine.proofs.LineLengths.{text-short, argsMost, Sound}
@@ -51,9 +51,6 @@ titles-within least most sheet l h =
     )
 
 module _ (s : State) (g : InRange s) where
-  pub sensors-of : Sensors (s .sheet)
-  sensors-of = sensors-out (s .sheet) (g .sensors-in)
-
   -- the sheet's texts
   pub titles-short : (length (apiOf (s .sheet)) ≤ 32) × (length (buildOf (s .sheet)) ≤ 32)
   unfolding titlesOk titlesNone isBlank
@@ -68,8 +65,8 @@ module _ (s : State) (g : InRange s) where
       there = sym (cond-true (connected s c) (textOk 1 48 graphic (clientOf s c .«address_len») (clientOf s c .address)) (textOk 0 0 graphic (clientOf s c .«address_len») (clientOf s c .address)) k) ∙ g .client-in c h
 
   report-sound : (j : ℕ) → j < s .sheet .count → Sound 200 (Messages.reportOf (s .sheet) s j)
-  report-sound j h = sound-report (s .clock) (sensorOf (s .sheet) j) (present s j) (g .clock-in) (sensors-of .sensor-is j h)
-      (stored-is s g j h (le-trans h (sensors-of .count-most)) .0)
+  report-sound j h = sound-report (s .clock) (sensorOf (s .sheet) j) (present s j) (g .clock-in) (sensors-of s g .sensor-is j h)
+      (stored-is s g j h (le-trans h (sensors-of s g .count-most)) .0)
 
   addresses-short : (length (addresses s) ≤ 8) × Each (λ a. length a ≤ 48) (addresses s)
   unfolding addresses
@@ -186,23 +183,19 @@ module _ (s : State) (g : InRange s) (c : ℕ) (hc : c < 8) (m : Message) (r : H
       informs-sent (Messages.versionInform (m .id)) (λ args. argsMost args ≤ 165) (Messages.protocolArgs ∷ Messages.deviceArgs (s .sheet) ∷ []) (omega arith)
       (omega arith, (omega (arith, q .0, q .1), tt)) (sound-version (m .id) (r .id))
 
-  by-request : (q : Request) → argumentsDeclined (s .sheet) q m ≡ 0 → Sendable (answer (s .sheet) s c q m .sent)
+  pub answer-sent : (q : Request) → argumentsDeclined (s .sheet) q m ≡ 0 → Sendable (answer (s .sheet) s c q m .sent)
   unfolding argumentsDeclined answer
-  by-request ClientList h =
+  answer-sent ClientList h =
       let q = addresses-short s g in
       informs-sent (Messages.clientInform (m .id)) (λ a. length a ≤ 48) (addresses s) (omega (arith, q .0)) (q .1) (sound-client (m .id) (r .id))
-  by-request Halt h = ending-sent (text "Device halting.") (omega arith)
-  by-request Help h =
+  answer-sent Halt h = ending-sent (text "Device halting.") (omega arith)
+  answer-sent Help h =
       let q = helped-short (s .sheet) m h in
       informs-sent (Messages.helpInform (m .id)) (λ a. length a ≤ 15) (helpNames m) (q .0) (q .1) (sound-help (m .id) (r .id))
-  by-request LogLevel h = one-sent _ (served hc (sound-level m r (levelAsked s m)))
-  by-request Restart h = ending-sent (text "Device restarting.") (omega arith)
-  by-request SensorList h = sensor-list-sent h
-  by-request SensorSampling h = sampling-sent h
-  by-request SensorValue h = sensor-value-sent h
-  by-request VersionList h = versions-sent
-  by-request Watchdog h = one-sent _ (served hc (sound-ok m r))
-
-  pub answer-sent : (q : Request) → lineDeclined (s .sheet) (Asks q m) ≡ 0 → Sendable (answer (s .sheet) s c q m .sent)
-  unfolding lineDeclined
-  answer-sent q h = by-request q (passed (not (countFits q (length (m .args)))) 15 (argumentsDeclined (s .sheet) q m) (omega arith) h .1)
+  answer-sent LogLevel h = one-sent _ (served hc (sound-level m r (levelAsked s m)))
+  answer-sent Restart h = ending-sent (text "Device restarting.") (omega arith)
+  answer-sent SensorList h = sensor-list-sent h
+  answer-sent SensorSampling h = sampling-sent h
+  answer-sent SensorValue h = sensor-value-sent h
+  answer-sent VersionList h = versions-sent
+  answer-sent Watchdog h = one-sent _ (served hc (sound-ok m r))

@@ -62,9 +62,9 @@ module _ (a j : ℕ) (ha : a < 8) (hj : j < 32) where
 
   line-good : (s : State) (c : ℕ) (line : List ℕ) → GoodIn (s .sheet) s → connected (lineWork (s .sheet) s c (asked line) .next) a ≡ true → GoodIn (s .sheet) (lineWork (s .sheet) s c (asked line) .next)
   line-good s c line g = line-next (λ n. connected n a ≡ true → GoodIn (s .sheet) n) s c (asked line) (λ _. g)
-      (λ r m e. answer-next (λ r n. connected n a ≡ true → GoodIn (s .sheet) n) s c m (λ r _. g) (λ l _. g)
+      (λ r m e. answer-next (λ r n. connected n a ≡ true → GoodIn (s .sheet) n) s c m (λ r e _. g) (λ l _. g)
       (λ b l on. absurd (true≢false (sym on ∙ nobody-there a))) (λ b l on. absurd (true≢false (sym on ∙ nobody-there a)))
-      (λ e _. set-good s c (listed (s .sheet) m) (strategyAsked (s .sheet) m) g) r)
+      (λ e _. g) (λ e _. set-good s c (listed (s .sheet) m) (strategyAsked (s .sheet) m) g) r)
 
   -- another client's connection
   other-good : (s : State) → GoodIn (s .sheet) s → (c : ℕ) (k : Client) → eqb c a ≡ false → GoodIn (s .sheet) (withClient s c k)

@@ -21,7 +21,7 @@ use Rattle.machine.specs.State.{noSubscription, clientOf, connected, sto
 use Rattle.machine.specs.Range.{sampleOk, sampleNone, storedOk, storedNone, clientOk, strategyOk, isNone, pairNone, storedOkAt, pairOkAt, isBlank}
 use Rattle.machine.specs.Report.{dueAt, reported, pairAfter}
 use Rattle.machine.specs.Requests.{sampled, sampledPairs}
-use Rattle.machine.proofs.TestLaws.{and-true, and-in, cond-true}
+use Rattle.machine.proofs.TestLaws.{and-true, and-in, cond-true, cond-either}
 use Rattle.machine.proofs.PlacesLaws.{getD-tabulate}
 use Rattle.machine.proofs.StateLaws.{client-after, stored-after}
 use Rattle.machine.proofs.RangeLaws.{InRange, stored-is}
@@ -118,16 +118,12 @@ module _ (s : State) (r : InRange s) (titled : titlesOk (s .sheet) ≡ true) whe
     clock-in = r .clock-in;
     level-in = r .level-in;
     stored-in = r .stored-in;
-    client-in = λ a h. rw (client-after s c a k h) (either (eqb a c) a (r .client-in a h));
+    client-in = λ a h. rw (client-after s c a k h) (cond-either (λ (y : Client). clientOk y ≡ true) (eqb a c) k (clientOf s a) f (r .client-in a h));
     pair-in = λ p h. pair-same (s .sheet) (s .clock) (connected (withClient s c k) (p / 32)) (cond (eqb (p / 32) c) k (clientOf s (p / 32)) .connected) p (pairAt (withClient s c k) p) _
         (ap (λ (y : Client). y .connected) (client-after s c (p / 32) k (omega arith))) (getD-tabulate _ 256 p noSubscription h)
         (pair (eqb (p / 32) c) p (r .pair-in p h));
   }
     where
-      either : (b : Bool) (a : ℕ) → clientOk (clientOf s a) ≡ true → clientOk (cond b k (clientOf s a)) ≡ true
-      either true a q = f
-      either false a q = q
-
       pair : (b : Bool) (p : ℕ) → pairFits (s .sheet) (s .clock) (connected s (p / 32)) p (pairAt s p) ≡ true
           → pairFits (s .sheet) (s .clock) (cond b k (clientOf s (p / 32)) .connected) p (cond b noSubscription (pairAt s p)) ≡ true
       pair true p q = pair-of-no-subscription (s .sheet) (s .clock) (k .connected) p

@@ -4,7 +4,7 @@ use Prim.Native.Char.{code}
 use native.Mathlib.Omega.{arith}
 use mathlib.Core.Path.{_≡_, refl, ap, sym, _∙_, subst}
 use mathlib.Core.Bool.{Bool, true, false, cond, not, _||_, true≢false}
-use mathlib.Core.List.{List}
+use mathlib.Core.List.{List, []}
 use mathlib.Core.Option.{Option, none, some}
 use lib.Dec.{eqb, ltb}
 use lib.ListN.{length}
@@ -18,10 +18,13 @@ use Rattle.machine.specs.declared.State.{State}
 use Rattle.machine.specs.declared.Request.{Request}
 use Rattle.machine.specs.declared.Request.the-variants.{ClientList, Halt, Help, LogLevel, Restart, SensorList, SensorSampling, SensorValue, VersionList, Watchdog}
 use Rattle.machine.specs.Range.{inRange}
-use Rattle.machine.specs.Requests.{Asked, Nothing, NotMessage, Reply, Unknown, Asks, asked, askedBy, askedFor, requestNamed}
-use Rattle.machine.specs.Declined.{Call, clientDeclined, actionDeclined, declined}
-use Rattle.machine.specs.Machine.{Effect, done, left, outcome, perform, step}
+use Rattle.machine.specs.Requests.{Asked, Nothing, NotMessage, Reply, Unknown, Asks, asked, askedBy, askedFor, requestNamed, sendsOnly, answer}
+use Rattle.machine.specs.Declined.{Call, clientDeclined, actionDeclined, declined, Action, Connect, Disconnect, Tick, Reading, Log, Line, countFits, argumentsDeclined, lineDeclined}
+use Rattle.machine.specs.Machine.{Effect, done, left, outcome, perform, step, lineWork}
 use Rattle.machine.proofs.TestLaws.{passed, or-true}
+use Rattle.machine.specs.State.{connected}
+use Rattle.machine.specs.Report.{Work}
+use Rattle.machine.specs.TwoDevices.{isConnect}
 
 -- every fact of a call splits here
 pub by-cases : (P : Effect → Type 0) (s : State) (call : Call)
@@ -185,3 +188,54 @@ request-asked line m e k = go (blankLine line) refl
     go : (b : Bool) → blankLine line ≡ b → cond b Nothing (askedBy (parse line)) ≡ askedFor (requestNamed (m .name)) m
     go true q = absurd (true≢false (ap isMessage (sym e ∙ blank-parse line q)))
     go false q = rw (e, k)
+
+requestOr : Option Request → Request
+requestOr none = ClientList
+requestOr (some r) = r
+
+-- two requests of one name are the same
+pub names-apart : (q r : Request) → nameFor q ≡ nameFor r → q ≡ r
+unfolding requestOr
+names-apart q r e = ap requestOr (sym (request-found q) ∙ (ap requestNamed e ∙ request-found r))
+
+-- a request is sampling, or has another name
+pub by-sampling : (P : Request → Type 0) → P SensorSampling → ((r : Request) → same (nameFor r) (nameFor SensorSampling) ≡ false → P r) → (r : Request) → P r
+by-sampling P yes-case no-case r = go (same (nameFor r) (nameFor SensorSampling)) refl
+  where
+    go : (b : Bool) → same (nameFor r) (nameFor SensorSampling) ≡ b → P r
+    go true e = subst P (sym (names-apart r SensorSampling (same-true (nameFor r) (nameFor SensorSampling) e))) yes-case
+    go false e = no-case r e
+
+-- a connect of client a is a connect
+pub connect-only : (P : Action → Type 0) (a : ℕ) → ((c : ℕ) (address : List ℕ) → eqb c a ≡ true → P (Connect c address)) → (action : Action) → isConnect a action ≡ true → P action
+connect-only P a connect (Connect c address) e = connect c address e
+connect-only P a connect (Disconnect c) e = absurd (true≢false (sym e))
+connect-only P a connect (Tick t) e = absurd (true≢false (sym e))
+connect-only P a connect (Reading j r) e = absurd (true≢false (sym e))
+connect-only P a connect (Log level logger said) e = absurd (true≢false (sym e))
+connect-only P a connect (Line c line) e = absurd (true≢false (sym e))
+
+-- a line that asks a request and that nothing declines
+pub record Asking (s : State) (c : ℕ) (line : List ℕ) (r : Request) (m : Message) : Type 0 where
+  pub client : c < 8
+  pub there : connected s c ≡ true
+  pub request : IsRequest line r m
+  pub counted : countFits r (length (m .args)) ≡ true
+  pub arguments : argumentsDeclined (s .sheet) r m ≡ 0
+
+-- a line that nothing declines asks nothing, or a request
+pub by-asking : (P : Work → Type 0) (s : State) (c : ℕ) (line : List ℕ) → actionDeclined (s .sheet) s (Line c line) ≡ 0
+    → P (sendsOnly s []) → ((r : Request) (m : Message) → Asking s c line r m → P (answer (s .sheet) s c r m)) → P (lineWork (s .sheet) s c (asked line))
+unfolding actionDeclined lineDeclined lineWork
+by-asking P s c line d nothing asks = go (asked line) refl (fits .1 .1)
+  where
+    fits : (c < 8) × ((not (connected s c) ≡ false) × (lineDeclined (s .sheet) (asked line) ≡ 0))
+    fits = client-fits (not (connected s c)) c (lineDeclined (s .sheet) (asked line)) d
+
+    go : (w : Asked) → asked line ≡ w → lineDeclined (s .sheet) w ≡ 0 → P (lineWork (s .sheet) s c w)
+    go Nothing e z = nothing
+    go NotMessage e z = nothing
+    go Reply e z = nothing
+    go (Unknown m) e z = nothing
+    go (Asks r m) e z = let q = passed (not (countFits r (length (m .args)))) 15 (argumentsDeclined (s .sheet) r m) (omega arith) z in
+        asks r m (record { client = fits .0; there = not-false (connected s c) (fits .1 .0); request = asks-is line r m e; counted = not-false (countFits r (length (m .args))) (q .0); arguments = q .1 })

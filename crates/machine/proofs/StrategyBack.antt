@@ -5,9 +5,9 @@ use mathlib.Core.Path.{_≡_, refl}
 use mathlib.Core.Bool.{Bool, true, false, cond, _&&_}
 use mathlib.Core.List.{List, [], _∷_}
 use mathlib.Core.Option.{some}
-use lib.Dec.{eqb, leb}
+use lib.Dec.{eqb}
 use lib.ListN.{length}
-use borrow.Author.Tests.{leb-true, le-leb, eqb-true}
+use borrow.Author.Tests.{le-leb, eqb-true}
 use Rattle.output.specs.Number.{time, difference, wholeDifference}
 use Rattle.output.specs.Read.{inDifference, inWholeDifference, readTime, readDifference, readWholeDifference}
 use Rattle.output.proofs.ReadBack.{times, differences, whole-differences}
@@ -15,12 +15,13 @@ use Rattle.machine.specs.declared.Sensor.{Sensor}
 use Rattle.machine.specs.declared.Strategy.{Strategy}
 use Rattle.machine.specs.declared.Strategy.the-variants.{None, Auto, Period, Event, Differential, EventRate, DifferentialRate}
 use Rattle.machine.specs.Places.{allBelow, firstBelow}
-use Rattle.machine.specs.Range.{periodOk, ratesOk, differenceOk, strategyOk}
+use Rattle.machine.specs.Range.{ratesOk, differenceOk, strategyOk}
 use Rattle.machine.specs.Messages.{strategyText, strategyKind, differenceText, parameterTexts}
 use Rattle.machine.specs.Requests.{strategyNamed, parameterCount, strategyBy}
 use Rattle.machine.specs.Reader.{readDifferenceFor, parametersRead, allNumbers}
 use Rattle.machine.proofs.TestLaws.{and-true}
 use Rattle.machine.proofs.PlacesLaws.{below-at}
+use Rattle.machine.proofs.ParameterRange.{period-most, rates-most}
 
 -- the numbers of a strategy's parameters, in the order of their texts
 pub numbersOf : Strategy → List ℕ
@@ -73,13 +74,7 @@ period-read p h = times .back p (le-leb p 9999999999999 (omega arith))
 
 -- "shortest .. longest", as they are read
 rates-read : (a b : ℕ) → ratesOk a b ≡ true → (readTime (time a) ≡ some a) × (readTime (time b) ≡ some b)
-rates-read a b h = (period-read a (omega (arith, leb-true a b (q .0), m)), period-read b m)
-  where
-    q : (leb a b ≡ true) × (periodOk b ≡ true)
-    q = and-true (leb a b) (periodOk b) h
-
-    m : b ≤ 86400000
-    m = leb-true b 86400000 (and-true (leb 1 b) (leb b 86400000) (q .1) .1)
+rates-read a b h = let q = rates-most a b h in (period-read a (q .0), period-read b (q .1))
 
 -- the parameters read back, for a sensor that can have the strategy
 pub parameters-read : (n : Sensor) (st : Strategy) → strategyOk (n .kind) st ≡ true
@@ -87,7 +82,7 @@ pub parameters-read : (n : Sensor) (st : Strategy) → strategyOk (n .kind) st �
 unfolding parametersRead numbersOf strategyOk
 parameters-read n None h = refl
 parameters-read n Auto h = refl
-parameters-read n (Period p) h = rw (period-read p (leb-true p 86400000 (and-true (leb 1 p) (leb p 86400000) h .1)))
+parameters-read n (Period p) h = rw (period-read p (period-most p h))
 parameters-read n Event h = refl
 parameters-read n (Differential d) h = rw (difference-read n d h)
 parameters-read n (EventRate a b) h = rw (rates-read a b h .0, rates-read a b h .1)

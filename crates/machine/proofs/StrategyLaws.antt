@@ -16,24 +16,25 @@ use Rattle.machine.specs.declared.Strategy.the-variants.{None}
 use Rattle.machine.specs.declared.Subscription.{Subscription}
 use Rattle.machine.specs.declared.State.{State}
 use Rattle.machine.specs.declared.Request.{Request}
-use Rattle.machine.specs.declared.Request.the-variants.{ClientList, Halt, Help, LogLevel, Restart, SensorList, SensorSampling, SensorValue, VersionList, Watchdog}
+use Rattle.machine.specs.declared.Request.the-variants.{SensorSampling}
 use Rattle.machine.specs.declared.Cause.{Cause}
 use Rattle.machine.specs.Places.{isZero, has}
 use Rattle.machine.specs.State.{connected, pairOf, present, noSubscription, blankClient, clientAt, withClock, withReading}
 use Rattle.machine.specs.Range.{isNone}
-use Rattle.machine.specs.Report.{Work, visit, dueAt, reported}
-use Rattle.machine.specs.Requests.{Asked, Nothing, NotMessage, Reply, Unknown, Asks, asked, listed, strategyAsked, sampled, sampledPairs, sampling, answer}
+use Rattle.machine.specs.Report.{visit, dueAt, reported}
+use Rattle.machine.specs.Requests.{Asked, Nothing, NotMessage, Reply, Unknown, Asks, asked, listed, strategyAsked, sampled, sampledPairs, answer}
 use Rattle.machine.specs.Declined.{Action, Connect, Disconnect, Tick, Reading, Log, Line, Call, actionDeclined, lineDeclined, countFits, declined}
 use Rattle.machine.specs.Machine.{Effect, perform, lineWork, step, sampleGiven}
 use Rattle.machine.specs.TwoDevices.{after, connects, isConnect, names, strategyIn, strategyAfter, strategyOf}
-use Rattle.machine.proofs.TestLaws.{cond-ap, cond-same, cond-cases, passed, eqb-sym}
+use Rattle.machine.proofs.TestLaws.{cond-ap, cond-same, passed, eqb-sym}
 use Rattle.machine.proofs.StateLaws.{nobody-there, pair-visited, pair-sampled, own-client, other-pair}
 use Rattle.machine.proofs.RangeLaws.{range-out}
 use Rattle.machine.proofs.StepLaws.{by-cases, accepted, client-fits, asks-is, nameFor}
 use Rattle.machine.proofs.KeptLaws.{perform-kept}
-use Rattle.machine.proofs.AnsweredLaws.{asksFor}
+use Rattle.machine.proofs.AnsweredLaws.{asksFor, sampling-ok}
 use Rattle.machine.proofs.GrantedLaws.{callOf, granted-is}
 use Rattle.machine.proofs.ListLaws.{opened-alone, sheet-is, sent-packets, connect-pair}
+use Rattle.machine.proofs.NextLaws.{answer-next}
 
 unset : {A : Type 0} (b : Bool) (x y : A) → y ≡ cond (b && false) x y
 unset true x y = refl
@@ -78,19 +79,12 @@ module _ (s : State) (a j : ℕ) (ha : a < 8) (hj : j < 32) where
   answer-strategy : (c : ℕ) (r : Request) (m : Message) → countFits r (length (m .args)) ≡ true → connected (answer (s .sheet) s c r m .next) a ≡ true
       → strategyNow a j (answer (s .sheet) s c r m .next)
       ≡ cond (eqb c a && same (nameFor r) (nameFor SensorSampling)) (cond (names (s .sheet) j m) (strategyAsked (s .sheet) m) (strategyNow a j s)) (strategyNow a j s)
-  unfolding answer sampling countFits
-  answer-strategy c ClientList m l on = unset (eqb c a) _ (strategyNow a j s)
-  answer-strategy c Halt m l on = absurd (true≢false (sym on ∙ nobody-there a))
-  answer-strategy c Help m l on = unset (eqb c a) _ (strategyNow a j s)
-  answer-strategy c LogLevel m l on = unset (eqb c a) _ (strategyNow a j s)
-  answer-strategy c Restart m l on = absurd (true≢false (sym on ∙ nobody-there a))
-  answer-strategy c SensorList m l on = unset (eqb c a) _ (strategyNow a j s)
-  answer-strategy c SensorSampling m l on = cond-cases (λ (w : Work). strategyNow a j (w .next)
-      ≡ cond (eqb c a && true) (cond (names (s .sheet) j m) (strategyAsked (s .sheet) m) (strategyNow a j s)) (strategyNow a j s)) (eqb (length (m .args)) 1) _ _
-      (query-strategy c m) (set-strategy c m l)
-  answer-strategy c SensorValue m l on = unset (eqb c a) _ (strategyNow a j s)
-  answer-strategy c VersionList m l on = unset (eqb c a) _ (strategyNow a j s)
-  answer-strategy c Watchdog m l on = unset (eqb c a) _ (strategyNow a j s)
+  unfolding countFits
+  answer-strategy c r m = answer-next (λ r n. countFits r (length (m .args)) ≡ true → connected n a ≡ true
+      → strategyNow a j n ≡ cond (eqb c a && same (nameFor r) (nameFor SensorSampling)) (cond (names (s .sheet) j m) (strategyAsked (s .sheet) m) (strategyNow a j s)) (strategyNow a j s)) s c m
+      (λ r e l on. rw e (unset (eqb c a) _ (strategyNow a j s))) (λ n l on. unset (eqb c a) _ (strategyNow a j s))
+      (λ b n l on. absurd (true≢false (sym on ∙ nobody-there a))) (λ b n l on. absurd (true≢false (sym on ∙ nobody-there a)))
+      (λ e l on. query-strategy c m e) (λ e l on. set-strategy c m l e) r
 
   line-strategy : (c : ℕ) (line : List ℕ) → actionDeclined (s .sheet) s (Line c line) ≡ 0 → connected (lineWork (s .sheet) s c (asked line) .next) a ≡ true
       → strategyNow a j (lineWork (s .sheet) s c (asked line) .next)
@@ -139,7 +133,7 @@ module _ (s : State) (a j : ℕ) (ha : a < 8) (hj : j < 32) where
   after-is (Tick t) lent before = sym (cond-same (isZero (step s (callOf (Tick t) lent) .number)) before)
   after-is (Reading k r) lent before = sym (cond-same (isZero (step s (callOf (Reading k r) lent) .number)) before)
   after-is (Log level logger said) lent before = sym (cond-same (isZero (step s (callOf (Log level logger said) lent) .number)) before)
-  after-is (Line c line) lent before = ap (λ g. cond (eqb c a && g) (strategyIn (s .sheet) j (parse line) before) before) (granted-is s c line lent SensorSampling refl)
+  after-is (Line c line) lent before = ap (λ g. cond (eqb c a && g) (strategyIn (s .sheet) j (parse line) before) before) (granted-is s c line lent SensorSampling (sampling-ok s))
       ∙ go (eqb c a) (isZero (step s (callOf (Line c line) lent) .number)) (asksFor SensorSampling (asked line))
     where
       x : Strategy

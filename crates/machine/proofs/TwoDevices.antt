@@ -30,10 +30,11 @@ use Rattle.machine.proofs.Sent.{sent-well-formed}
 use Rattle.machine.proofs.FileLaws.{file-apart}
 use Rattle.machine.proofs.ListLaws.{sheet-is, clock-is, reading-is, connected-is, at-end-small, heard-is}
 use Rattle.machine.proofs.StrategyLaws.{strategy-is}
-use Rattle.machine.proofs.KnownLaws.{Same, Near, Known, Good, none-is}
+use Rattle.machine.proofs.KnownLaws.{Same, Near, Known, Good}
 use Rattle.machine.proofs.SettledLaws.{good}
 use Rattle.machine.proofs.ArchiveLaws.{lines-are, each-message, last-is}
 use Rattle.machine.proofs.SampleRange.{valid-is}
+use Rattle.machine.proofs.RangeLaws.{none-is}
 
 -- Two readings known from one report.
 

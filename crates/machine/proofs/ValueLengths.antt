@@ -20,10 +20,9 @@ use Rattle.machine.specs.Sheet.{optionOf, limitOk, limitsNone, limitsTwo
 use Rattle.machine.specs.Range.{sampleOk}
 use Rattle.machine.specs.Messages.{valueFor, limitNumbers, typeArgs}
 use Rattle.machine.proofs.TestLaws.{and-true, or-true, cond-true}
-use Rattle.machine.proofs.PlacesLaws.{length-tabulate, each-map}
+use Rattle.machine.proofs.PlacesLaws.{length-tabulate, each-map, each-tabulate}
 use Rattle.machine.proofs.SheetLaws.{SensorRules}
 use Rattle.machine.proofs.SampleRange.{sample-number}
-use Rattle.machine.proofs.CountLaws.{each-tabulate}
 use Rattle.machine.proofs.LineLengths.{text-short, argsMost, args-short}
 
 -- Options.
