@@ -8,11 +8,12 @@ use mathlib.Core.List.{List, [], _∷_}
 use lib.Dec.{eqb, leb}
 use lib.ListN.{length}
 use borrow.Author.Tests.{leb-true}
-use Rattle.output.specs.Text.{isDigit, all, run}
+use Rattle.output.specs.Text.{isDigit, all}
 use Rattle.message.specs.Message.{Message}
 use Rattle.line.specs.declared.Identifier.{Identifier}
 use Rattle.line.specs.declared.Identifier.the-variants.{Bad, Is}
 use Rattle.line.specs.Line.{Parse, malformed, message, blank, kindByte, nameByte, nameOk, nameOf, afterName, idFrom, idOf, withId, readNamed, readHead, lineSize, allValid, behind, word, parse, blankLine}
+use Rattle.output.proofs.RunLaws.{run-all}
 
 -- kind, name and id of a message as a line can give them
 pub record Head (m : Message) : Type 0 where
@@ -20,14 +21,6 @@ pub record Head (m : Message) : Type 0 where
   pub letters : all nameByte (m .name) ≡ true
   pub name : nameOk (m .name) ≡ true
   pub id : m .id ≤ 2147483647
-
-all-run : (is : ℕ → Bool) (s : List ℕ) → all is (run is s) ≡ true
-all-run is [] = refl
-all-run is (b ∷ s) = go (is b) refl (all-run is s)
-  where
-    go : (t : Bool) → is b ≡ t → all is (run is s) ≡ true → all is (cond t (b ∷ run is s) []) ≡ true
-    go true e h = rw e h
-    go false e h = refl
 
 abbrev HasHead : Parse → Type 0
 HasHead malformed = Unit
@@ -62,7 +55,7 @@ named-head k t ws h = go (nameOk (nameOf t)) refl (idOf (afterName t)) (id-most 
   where
     go : (b : Bool) → nameOk (nameOf t) ≡ b → (i : Identifier) → Small i → HasHead (cond b (withId k (nameOf t) i ws) malformed)
     go true e Bad small = tt
-    go true e (Is i) small = record { kind = h; letters = all-run nameByte t; name = e; id = small }
+    go true e (Is i) small = record { kind = h; letters = run-all nameByte t; name = e; id = small }
     go false e i small = tt
 
 head-head : (w : List ℕ) (ws : List (List ℕ)) → HasHead (readHead w ws)

@@ -43,7 +43,7 @@ deliveries-most most (d ∷ ds) h =
 
 -- more bytes allowed
 sound-more : (most more : ℕ) → most ≤ more → (m : Message) → Sound most m → Sound more m
-sound-more most more h m k = record { kind = k .kind; letters = k .letters; name = k .name; id = k .id; length-most = le-trans (k .length-most) h }
+sound-more most more h m k = record { head = k .head; length-most = le-trans (k .length-most) h }
 
 pub served-more : (most more : ℕ) → most ≤ more → (ds : List Delivery) → Each (Served most) ds → Each (Served more) ds
 served-more most more h = each-weaker (Served most) (Served more) (λ d k. record { client-below = k .client-below; sound = sound-more most more h (d .message) (k .sound) })

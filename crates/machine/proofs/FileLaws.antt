@@ -14,7 +14,7 @@ use Rattle.output.specs.Read.{other, upTo, past}
 use Rattle.output.proofs.TextLaws.{every-all, every-decimal, digit-is}
 use Rattle.output.proofs.RunLaws.{all-append, all-in}
 use Rattle.output.proofs.ReadLaws.{upTo-at, past-at}
-use Rattle.message.specs.Message.{Message, escapeByte, escapeAll, escape, arg, argsText, idText, writeTo, write, line}
+use Rattle.message.specs.Message.{Message, escapeByte, escapeAll, escape, arg, argsText, idText, writeTo, write, line, Escape, escapes, escapeIn}
 use Rattle.message.proofs.MessageLaws.{line-end}
 use Rattle.line.specs.Line.{message, letter, nameByte, kindByte, parse, WellFormed}
 use Rattle.line.proofs.ReadBack.{read-back, written-apart}
@@ -30,20 +30,17 @@ not-end is f b h = go (eqb b 10) refl
     go true e = absurd (true≢false (sym h ∙ (ap is (eqb-true b 10 e) ∙ f)))
     go false e = refl
 
+in-free : (es : List Escape) (b : ℕ) → eqb b 10 ≡ false → Each (λ (e : Escape). other 10 (e .letter) ≡ true) es → all (other 10) (escapeIn es b) ≡ true
+in-free [] b e h = rw e
+in-free (x ∷ es) b e h = cond-either (λ l. all (other 10) l ≡ true) (eqb b (x .byte)) _ _ (rw (h .0)) (in-free es b e (h .1))
+
 escape-free : (b : ℕ) → all (other 10) (escapeByte b) ≡ true
 unfolding escapeByte
 escape-free b = go (eqb b 10) refl
   where
     go : (t : Bool) → eqb b 10 ≡ t → all (other 10) (escapeByte b) ≡ true
     go true e = ap (λ x. all (other 10) (escapeByte x)) (eqb-true b 10 e)
-    go false e =
-        cond-either (λ l. all (other 10) l ≡ true) (eqb b 92) _ _ refl
-        (cond-either (λ l. all (other 10) l ≡ true) (eqb b 32) _ _ refl
-        (cond-either (λ l. all (other 10) l ≡ true) (eqb b 0) _ _ refl
-        (cond-either (λ l. all (other 10) l ≡ true) (eqb b 10) _ _ refl
-        (cond-either (λ l. all (other 10) l ≡ true) (eqb b 13) _ _ refl
-        (cond-either (λ l. all (other 10) l ≡ true) (eqb b 27) _ _ refl
-        (cond-either (λ l. all (other 10) l ≡ true) (eqb b 9) _ _ refl (rw e)))))))
+    go false e = in-free escapes b e (refl, (refl, (refl, (refl, (refl, (refl, (refl, tt)))))))
 
 escape-all-free : (t : List ℕ) → all (other 10) (escapeAll t) ≡ true
 escape-all-free [] = refl

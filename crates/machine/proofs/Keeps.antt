@@ -46,9 +46,9 @@ zeros-zero zero = refl
 zeros-zero (suc n) = zeros-zero n
 
 -- the client of an address that fits
-newcomer-fits : (t : List ℕ) → addressFits t ≡ true → clientOk (clientAt t) ≡ true
+connected-fits : (t : List ℕ) → addressFits t ≡ true → clientOk (clientAt t) ≡ true
 unfolding addressFits clientOk textOk
-newcomer-fits t h =
+connected-fits t h =
     let a = and-true (leb 1 (length t)) (leb (length t) 48 && all graphic t) h in
     let b = and-true (leb (length t) 48) (all graphic t) (a .1) in
     and-in (leb 1 (length t)) _ (a .0)
@@ -94,7 +94,7 @@ module _ (s : State) (r : InRange s) (t : titlesOk (s .sheet) ≡ true) (c : ℕ
 perform-kept : (s : State) → InRange s → titlesOk (s .sheet) ≡ true → (d : Action) → actionDeclined (s .sheet) s d ≡ 0 → InRange (perform (s .sheet) s d .next)
 unfolding perform actionDeclined tickFits withReading
 perform-kept s r t (Connect c address) e = let a = client-fits (connected s c) c (cond (addressFits address) 0 7) e in
-    client-kept s r t c (clientAt address) (newcomer-fits address (fitted (addressFits address) 7 0 (omega arith) (a .1 .1) .0))
+    client-kept s r t c (clientAt address) (connected-fits address (fitted (addressFits address) 7 0 (omega arith) (a .1 .1) .0))
 perform-kept s r t (Disconnect c) e = client-kept s r t c blankClient unconnected-fits
 perform-kept s r t (Tick n) e =
     let a = and-true (leb (s .clock) n) (inTime n) (fitted (leb (s .clock) n && inTime n) 8 0 (omega arith) e .0) in

@@ -22,7 +22,7 @@ use Rattle.machine.specs.declared.Request.the-variants.{SensorSampling}
 use Rattle.machine.specs.declared.Cause.the-variants.{Tick as Ticked, Reading as Read}
 use Rattle.machine.specs.Places.{any, has, Each}
 use Rattle.machine.specs.Sheet.{sensorOf}
-use Rattle.machine.specs.State.{present, connected, pairOf, withPairs, withClock, withReading, withClient, clientAt, blankClient}
+use Rattle.machine.specs.State.{present, connected, pairOf, withPairs, withClock, withReading, clientAt, blankClient}
 use Rattle.machine.specs.Range.{isNone}
 use Rattle.machine.specs.Messages.{reportOf, samplingReply}
 use Rattle.machine.specs.Report.{Work, visit, dueAt, reported}
@@ -32,7 +32,7 @@ use Rattle.machine.specs.Machine.{perform, sampleGiven}
 use Rattle.machine.specs.Reader.{View, news, SetTo, viewAfter, viewOf, standing}
 use Rattle.machine.specs.TwoDevices.{isConnect}
 use Rattle.machine.proofs.TestLaws.{cond-cases, and-true, fitted, eqb-sym}
-use Rattle.machine.proofs.StateLaws.{pair-visited, pair-sampled, nobody-there, other-client, own-client, other-pair}
+use Rattle.machine.proofs.StateLaws.{pair-visited, pair-sampled, none-connected, other-client, still-connected, other-pair}
 use Rattle.machine.proofs.SheetLaws.{places-below}
 use Rattle.machine.proofs.RangeLaws.{InRange}
 use Rattle.machine.proofs.StepLaws.{nameFor, Asking, by-asking, by-sampling}
@@ -157,7 +157,7 @@ module _ (s : State) (r : InRange s) (a j : ℕ) (ha : a < 8) (hj : j < 32) wher
   other-left : (c : ℕ) (m : Message) (r : Request) → same (nameFor r) (nameFor SensorSampling) ≡ false → connected (answer (s .sheet) s c r m .next) a ≡ true
       → (connected s a ≡ true) × (standing (s .sheet) (answer (s .sheet) s c r m .next) a j ≡ standing (s .sheet) s a j)
   other-left c m = answer-next (λ r n. same (nameFor r) (nameFor SensorSampling) ≡ false → connected n a ≡ true → (connected s a ≡ true) × (standing (s .sheet) n a j ≡ standing (s .sheet) s a j)) s c m
-      (λ r q e on. (on, refl)) (λ l e on. (on, refl)) (λ b l e on. absurd (true≢false (sym on ∙ nobody-there a))) (λ b l e on. absurd (true≢false (sym on ∙ nobody-there a)))
+      (λ r q e on. (on, refl)) (λ l e on. (on, refl)) (λ b l e on. absurd (true≢false (sym on ∙ none-connected a))) (λ b l e on. absurd (true≢false (sym on ∙ none-connected a)))
       (λ q e on. (on, refl)) (λ q e. absurd (true≢false e))
 
   -- and tells nothing
@@ -188,11 +188,8 @@ module _ (s : State) (r : InRange s) (a j : ℕ) (ha : a < 8) (hj : j < 32) wher
     before = sym (other-client s a ha c (clientAt address) n) ∙ on;
     heard-is = ap (viewOf (sensorOf (s .sheet) j)) (other-pair s a j ha hj c (clientAt address) n) ∙ sym (quiet-heard (s .sheet) a j _ _ (connect-sends-quiet (s .sheet) s c address));
   }
-  perform-kept (Disconnect c) d n on = go (eqb c a) refl
-    where
-      go : (b : Bool) → eqb c a ≡ b → Kept (s .sheet) s (record { sent = []; next = withClient s c blankClient }) a j
-      go true e = absurd (true≢false (sym on ∙ own-client s a ha c blankClient e))
-      go false e = record { before = sym (other-client s a ha c blankClient e) ∙ on; heard-is = ap (viewOf (sensorOf (s .sheet) j)) (other-pair s a j ha hj c blankClient e) ∙ sym (heard-none (s .sheet) a j _) }
+  perform-kept (Disconnect c) d n on = let e = still-connected s a ha c on in
+      record { before = sym (other-client s a ha c blankClient e) ∙ on; heard-is = ap (viewOf (sensorOf (s .sheet) j)) (other-pair s a j ha hj c blankClient e) ∙ sym (heard-none (s .sheet) a j _) }
   perform-kept (Tick t) d n on = tick-kept t (fitted (tickFits s t) 8 0 (omega arith) d .0) on
   perform-kept (Reading k g) d n on = reading-kept k g on
   perform-kept (Log level logger said) d n on = record { before = on; heard-is = sym (quiet-heard (s .sheet) a j _ _ (entries-quiet (s .sheet) s level logger said)) }

@@ -84,10 +84,7 @@ id-length n h = go (eqb n 0)
 
 -- a message of at most so many bytes that a line can carry
 pub record Sound (most : ℕ) (m : Message) : Type 0 where
-  pub kind : kindByte (m .kind) ≡ true
-  pub letters : all nameByte (m .name) ≡ true
-  pub name : nameOk (m .name) ≡ true
-  pub id : m .id ≤ 2147483647
+  pub head : Head m
   pub length-most : length (write m) ≤ most
 
 write-length : (m : Message) → m .id ≤ 2147483647 → length (write m) ≤ 13 + length (m .name) + length (argsText (m .args) [])
@@ -103,22 +100,14 @@ name-length name h = leb-true (length name) 64 (and-eq-true-iff (leb (length nam
 pub sound-inform : (most id : ℕ) (name : List ℕ) (args : List (List ℕ)) → all nameByte name ≡ true → nameOk name ≡ true → id ≤ 2147483647
     → 13 + length name + argsMost args ≤ most → Sound most (informWith id name args)
 unfolding kindByte
-sound-inform most id name args l n i h = record {
-  kind = refl;
-  letters = l;
-  name = n;
-  id = i;
-  length-most = omega (arith, write-length (informWith id name args) i, args-most args);
-}
+sound-inform most id name args l n i h =
+    record { head = record { kind = refl; letters = l; name = n; id = i }; length-most = omega (arith, write-length (informWith id name args) i, args-most args) }
 
 -- a reply to a message that was read
 pub sound-answer : (most : ℕ) (m : Message) (args : List (List ℕ)) → Head m → 77 + length (argsText args []) ≤ most → Sound most (reply m args)
 unfolding kindByte
 sound-answer most m args r h = record {
-  kind = refl;
-  letters = r .letters;
-  name = r .name;
-  id = r .id;
+  head = record { kind = refl; letters = r .letters; name = r .name; id = r .id };
   length-most = omega (arith, write-length (reply m args) (r .id), name-length (m .name) (r .name));
 }
 

@@ -24,7 +24,7 @@ use Rattle.machine.specs.Reader.{View, viewBy, noView, viewOf, standing}
 use Rattle.machine.specs.TwoDevices.{after, sheetOf, returnedZero, packetsOf, connects, isConnect, isDisconnect, endsAll, connectedAtEnd, sentTo, messagesOf, readingBy, lastReading, sampleFrom, clockOf, clockBy}
 use Rattle.machine.proofs.TestLaws.{cond-true, eqb-sym}
 use Rattle.machine.proofs.PlacesLaws.{getD-tabulate}
-use Rattle.machine.proofs.StateLaws.{nobody-there, stored-after, pair-of-client}
+use Rattle.machine.proofs.StateLaws.{none-connected, stored-after, pair-of-client}
 use Rattle.machine.proofs.StepLaws.{by-cases, accepted, client-fits, connect-only}
 use Rattle.machine.proofs.RangeLaws.{range-out}
 use Rattle.machine.proofs.QuietLaws.{connect-sends-quiet, refusal-quiet}
@@ -38,7 +38,7 @@ use Rattle.machine.proofs.OpenedRange.{opened-either}
 
 -- no client is connected at first
 pub opened-alone : (bytes : List ℕ) (a : ℕ) → connected (opened bytes .state) a ≡ false
-opened-alone bytes a = opened-either (λ s. connected s a ≡ false) bytes (λ sheet ok. nobody-there a) (nobody-there a)
+opened-alone bytes a = opened-either (λ s. connected s a ≡ false) bytes (λ sheet ok. none-connected a) (none-connected a)
 
 module _ (bytes : List ℕ) where
   -- no call touches the sheet

@@ -17,7 +17,7 @@ use Rattle.machine.specs.Declined.{Action, Connect, Disconnect, Tick, Re
 use Rattle.machine.specs.Machine.{perform, lineWork}
 use Rattle.machine.specs.TwoDevices.{isConnect, isDisconnect, clockBy}
 use Rattle.machine.proofs.TestLaws.{cond-cases, cond-either}
-use Rattle.machine.proofs.StateLaws.{client-connected, nobody-there}
+use Rattle.machine.proofs.StateLaws.{client-connected, none-connected}
 use Rattle.machine.proofs.StepLaws.{nameFor}
 use Rattle.machine.proofs.AnsweredLaws.{asksFor}
 
@@ -91,10 +91,10 @@ endsConnections (Line c line) = asksFor Halt (asked line) || asksFor Restart (as
 answer-connected : (s : State) (a c : ℕ) (r : Request) (m : Message) → connected (answer (s .sheet) s c r m .next) a ≡ cond (same (nameFor r) (nameFor Halt) || same (nameFor r) (nameFor Restart)) false (connected s a)
 unfolding answer
 answer-connected s a c ClientList m = refl
-answer-connected s a c Halt m = nobody-there a
+answer-connected s a c Halt m = none-connected a
 answer-connected s a c Help m = refl
 answer-connected s a c LogLevel m = refl
-answer-connected s a c Restart m = nobody-there a
+answer-connected s a c Restart m = none-connected a
 answer-connected s a c SensorList m = refl
 answer-connected s a c SensorSampling m = sampling-clients s c a m
 answer-connected s a c SensorValue m = refl

@@ -24,9 +24,9 @@ use Rattle.machine.specs.declared.State.{State}
 
 -- Nobody is connected, and no pair is set.
 
-pub nobody-in : (c : ℕ) → clientOk (getD (replicate 8 blankClient) c noClient) ≡ true
+pub none-connected-in : (c : ℕ) → clientOk (getD (replicate 8 blankClient) c noClient) ≡ true
 unfolding clientOk textOk
-nobody-in c = replicate-either (λ (k : Client). clientOk k ≡ true) 8 c blankClient noClient refl refl
+none-connected-in c = replicate-either (λ (k : Client). clientOk k ≡ true) 8 c blankClient noClient refl refl
 
 pub no-pair-in : (sheet : Sheet) (clock : ℕ) (there : Bool) (p : ℕ) → pairFits sheet clock there p (getD (replicate 256 noSubscription) p noSubscription) ≡ true
 no-pair-in sheet clock there p = rw (getD-replicate-same 256 p noSubscription) (pair-of-no-subscription sheet clock there p)
@@ -53,7 +53,7 @@ blank-range = record {
   clock-in = omega arith;
   level-in = omega arith;
   stored-in = λ j h. below-at (storedOkAt blank) 32 j blank-stored h;
-  client-in = λ c h. nobody-in c;
+  client-in = λ c h. none-connected-in c;
   pair-in = λ p h. no-pair-in blankSheet 0 (connected blank (p / 32)) p;
 }
 
@@ -77,7 +77,7 @@ module _ (sheet : Sheet) where
     clock-in = omega arith;
     level-in = omega arith;
     stored-in = fresh-stored;
-    client-in = λ c h. nobody-in c;
+    client-in = λ c h. none-connected-in c;
     pair-in = λ p h. no-pair-in sheet 0 (connected (fresh sheet) (p / 32)) p;
   }
 

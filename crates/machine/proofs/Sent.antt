@@ -27,7 +27,7 @@ use Rattle.machine.specs.Report.{dueAt, pairSends, visit, Work}
 use Rattle.machine.specs.Requests.{Asked, Nothing, NotMessage, Reply, Unknown, Asks, asked}
 use Rattle.machine.specs.Declined.{Action, Connect, Disconnect, Tick, Reading, Log, Line, Call, clientDeclined, addressFits, tickFits, entryFits, entryByte, lineDeclined, actionDeclined, declined, lineRefusal, refusal}
 use Rattle.machine.specs.Machine.{Effect, sampleGiven, connectSends, entries, perform, step}
-use Rattle.machine.specs.Claims.{Fits, SentReadsBack}
+use Rattle.machine.specs.Claims.{Fits, SentReadsBack, SentToClients}
 use Rattle.machine.proofs.TestLaws.{and-true, fitted}
 use Rattle.machine.proofs.PlacesLaws.{each-gather, each-one, each-weaker, gather-length}
 use Rattle.machine.proofs.StateLaws.{due-below}
@@ -174,13 +174,14 @@ step-sent s call = by-cases (λ (e : Effect). Sendable (e .sent)) s call
     (λ n e. refusal-sent s (suc n) (call .action) (λ h. (declined-in-range s call n e (omega arith), action-declines s call (suc n) e h)))
 
 well-formed : (d : Delivery) → Served 2048 d → WellFormed (d .message)
-well-formed d h = record { kind = h .sound .kind; letters = h .sound .letters; name = h .sound .name; id = h .sound .id; fits = h .sound .length-most }
+well-formed d h = let k = h .sound .head in
+    record { kind = k .kind; letters = k .letters; name = k .name; id = k .id; fits = h .sound .length-most }
 
 pub sent-well-formed : (s : State) (call : Call) → Each (λ (d : Delivery). WellFormed (d .message)) (step s call .sent)
 sent-well-formed s call = each-weaker (Served 2048) (λ (d : Delivery). WellFormed (d .message)) well-formed (step s call .sent) (step-sent s call .all-served)
 
-pub sent-clients : (s : State) (call : Call) → Each (λ (d : Delivery). d .client < 8) (step s call .sent)
-sent-clients s call = each-weaker (Served 2048) (λ (d : Delivery). d .client < 8) (λ d h. h .client-below) (step s call .sent) (step-sent s call .all-served)
+pub sent-to-clients : SentToClients
+sent-to-clients s call = each-weaker (Served 2048) (λ (d : Delivery). d .client < 8) (λ d h. h .client-below) (step s call .sent) (step-sent s call .all-served)
 
 short : (ds : List Delivery) → Each (Served 2048) ds → Short (map packet ds)
 short [] h = tt

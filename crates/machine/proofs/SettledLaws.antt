@@ -21,7 +21,7 @@ use Rattle.machine.specs.Declined.{Action, Connect, Disconnect, Tick, Re
 use Rattle.machine.specs.Machine.{Effect, perform, lineWork, step, sampleGiven}
 use Rattle.machine.specs.TwoDevices.{after, sheetOf, isConnect}
 use Rattle.machine.proofs.TestLaws.{cond-either, cond-false, eqb-sym}
-use Rattle.machine.proofs.StateLaws.{nobody-there, pair-visited, pair-sampled, stored-after, own-client, other-pair}
+use Rattle.machine.proofs.StateLaws.{none-connected, pair-visited, pair-sampled, stored-after, still-connected, other-pair}
 use Rattle.machine.proofs.RangeLaws.{range-out}
 use Rattle.machine.proofs.StepLaws.{by-cases, accepted}
 use Rattle.machine.proofs.KeptLaws.{perform-kept}
@@ -63,7 +63,7 @@ module _ (a j : ℕ) (ha : a < 8) (hj : j < 32) where
   line-good : (s : State) (c : ℕ) (line : List ℕ) → GoodIn (s .sheet) s → connected (lineWork (s .sheet) s c (asked line) .next) a ≡ true → GoodIn (s .sheet) (lineWork (s .sheet) s c (asked line) .next)
   line-good s c line g = line-next (λ n. connected n a ≡ true → GoodIn (s .sheet) n) s c (asked line) (λ _. g)
       (λ r m e. answer-next (λ r n. connected n a ≡ true → GoodIn (s .sheet) n) s c m (λ r e _. g) (λ l _. g)
-      (λ b l on. absurd (true≢false (sym on ∙ nobody-there a))) (λ b l on. absurd (true≢false (sym on ∙ nobody-there a)))
+      (λ b l on. absurd (true≢false (sym on ∙ none-connected a))) (λ b l on. absurd (true≢false (sym on ∙ none-connected a)))
       (λ e _. g) (λ e _. set-good s c (listed (s .sheet) m) (strategyAsked (s .sheet) m) g) r)
 
   -- another client's connection
@@ -75,11 +75,7 @@ module _ (a j : ℕ) (ha : a < 8) (hj : j < 32) where
       → connected (perform (s .sheet) s action .next) a ≡ true → GoodIn (s .sheet) (perform (s .sheet) s action .next)
   unfolding perform
   perform-good s hs g on (Connect c address) n after-on = other-good s g c (clientAt address) n
-  perform-good s hs g on (Disconnect c) n after-on = go (eqb c a) refl
-    where
-      go : (b : Bool) → eqb c a ≡ b → GoodIn (s .sheet) (perform (s .sheet) s (Disconnect c) .next)
-      go true e = absurd (true≢false (sym after-on ∙ own-client s a ha c blankClient e))
-      go false e = other-good s g c blankClient e
+  perform-good s hs g on (Disconnect c) n after-on = other-good s g c blankClient (still-connected s a ha c after-on)
   perform-good s hs g on (Tick t) n after-on = tick-good s t hs g on
   perform-good s hs g on (Reading k x) n after-on = reading-good s k (sampleGiven (sensorOf (s .sheet) k) x) hs g on
   perform-good s hs g on (Log level logger said) n after-on = g

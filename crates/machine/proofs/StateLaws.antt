@@ -1,8 +1,8 @@
 -- The subscription of a client to a sensor, after each way of writing the state anew.
 use Prim.Native.Nat.{ℕ, _+_, _*_, _/_, _%_, _<_}
 use native.Mathlib.Omega.{arith}
-use mathlib.Core.Path.{_≡_, refl, ap, _∙_}
-use mathlib.Core.Bool.{true, false, cond, _&&_}
+use mathlib.Core.Path.{_≡_, refl, ap, _∙_, sym}
+use mathlib.Core.Bool.{true, false, cond, _&&_, true≢false, Bool}
 use mathlib.Core.List.{List}
 use lib.Dec.{eqb, ltb}
 use lib.ListN.{getD, replicate}
@@ -56,8 +56,8 @@ pub stored-after : (s : State) (j i : ℕ) (x : Sample) → i < 32 → storedOf 
 unfolding withReading
 stored-after s j i x hi = getD-tabulate _ 32 i noStored hi
 
-pub nobody-there : (a : ℕ) → getD (replicate 8 blankClient) a noClient .connected ≡ false
-nobody-there a = replicate-either (λ (k : Client). k .connected ≡ false) 8 a blankClient noClient refl refl
+pub none-connected : (a : ℕ) → getD (replicate 8 blankClient) a noClient .connected ≡ false
+none-connected a = replicate-either (λ (k : Client). k .connected ≡ false) 8 a blankClient noClient refl refl
 
 -- a pair that reports is one of a sensor on the sheet
 pub due-below : (sheet : Sheet) (s : State) (cause : Cause) (c j : ℕ) (p : Subscription) → dueAt sheet s cause c j p ≡ true → j < sheet .count
@@ -69,11 +69,19 @@ module _ (s : State) (a : ℕ) (ha : a < 8) where
   pub client-connected : (c : ℕ) (k : Client) → connected (withClient s c k) a ≡ cond (eqb c a) (k .connected) (connected s a)
   client-connected c k = ap (λ (k : Client). k .connected) (client-after s c a k ha) ∙ (cond-ap (λ (k : Client). k .connected) (eqb a c) k (clientOf s a) ∙ ap (λ b. cond b (k .connected) (connected s a)) (eqb-sym a c))
 
-  pub own-client : (c : ℕ) (k : Client) → eqb c a ≡ true → connected (withClient s c k) a ≡ k .connected
+  own-client : (c : ℕ) (k : Client) → eqb c a ≡ true → connected (withClient s c k) a ≡ k .connected
   own-client c k e = client-connected c k ∙ cond-true (eqb c a) (k .connected) (connected s a) e
 
   pub other-client : (c : ℕ) (k : Client) → eqb c a ≡ false → connected (withClient s c k) a ≡ connected s a
   other-client c k e = client-connected c k ∙ cond-false (eqb c a) (k .connected) (connected s a) e
+
+  -- a client that is connected after a disconnect is another one
+  pub still-connected : (c : ℕ) → connected (withClient s c blankClient) a ≡ true → eqb c a ≡ false
+  still-connected c on = go (eqb c a) refl
+    where
+      go : (b : Bool) → eqb c a ≡ b → b ≡ false
+      go true e = absurd (true≢false (sym on ∙ own-client c blankClient e))
+      go false e = refl
 
 pub other-pair : (s : State) (a j : ℕ) → a < 8 → j < 32 → (c : ℕ) (k : Client) → eqb c a ≡ false → pairOf (withClient s c k) a j ≡ pairOf s a j
 other-pair s a j ha hj c k e = pair-of-client s a j ha hj c k ∙ cond-false (eqb a c) noSubscription (pairOf s a j) (eqb-sym a c ∙ e)

@@ -26,7 +26,7 @@ use Rattle.machine.proofs.PlacesLaws.{getD-tabulate}
 use Rattle.machine.proofs.StateLaws.{client-after, stored-after}
 use Rattle.machine.proofs.RangeLaws.{InRange, stored-is}
 use Rattle.machine.proofs.PairRange.{pairFits, pair-same, Reported, pair-of-report, pair-of-none, pair-cases, pair-of-no-subscription, pair-later, pair-suits}
-use Rattle.machine.proofs.OpenedRange.{nobody-in, no-pair-in}
+use Rattle.machine.proofs.OpenedRange.{none-connected-in, no-pair-in}
 
 -- a reading at a later clock
 stored-later : (clock t : ℕ) (n : Sensor) (x : Stored) → clock ≤ t → storedOk clock n x ≡ true → storedOk t n x ≡ true
@@ -82,7 +82,7 @@ module _ (s : State) (r : InRange s) (titled : titlesOk (s .sheet) ≡ true) whe
     clock-in = r .clock-in;
     level-in = h;
     stored-in = r .stored-in;
-    client-in = λ c k. nobody-in c;
+    client-in = λ c k. none-connected-in c;
     pair-in = λ p k. no-pair-in (s .sheet) (s .clock) (connected (emptied s halted l) (p / 32)) p;
   }
 

@@ -27,7 +27,7 @@ use Rattle.machine.specs.Declined.{Action, Connect, Disconnect, Tick, Re
 use Rattle.machine.specs.Machine.{Effect, perform, lineWork, step, sampleGiven}
 use Rattle.machine.specs.TwoDevices.{after, connects, isConnect, names, strategyIn, strategyAfter, strategyOf}
 use Rattle.machine.proofs.TestLaws.{cond-ap, cond-same, passed, eqb-sym}
-use Rattle.machine.proofs.StateLaws.{nobody-there, pair-visited, pair-sampled, own-client, other-pair}
+use Rattle.machine.proofs.StateLaws.{none-connected, pair-visited, pair-sampled, still-connected, other-pair}
 use Rattle.machine.proofs.RangeLaws.{range-out}
 use Rattle.machine.proofs.StepLaws.{by-cases, accepted, client-fits, asks-is, nameFor}
 use Rattle.machine.proofs.KeptLaws.{perform-kept}
@@ -83,7 +83,7 @@ module _ (s : State) (a j : ℕ) (ha : a < 8) (hj : j < 32) where
   answer-strategy c r m = answer-next (λ r n. countFits r (length (m .args)) ≡ true → connected n a ≡ true
       → strategyNow a j n ≡ cond (eqb c a && same (nameFor r) (nameFor SensorSampling)) (cond (names (s .sheet) j m) (strategyAsked (s .sheet) m) (strategyNow a j s)) (strategyNow a j s)) s c m
       (λ r e l on. rw e (unset (eqb c a) _ (strategyNow a j s))) (λ n l on. unset (eqb c a) _ (strategyNow a j s))
-      (λ b n l on. absurd (true≢false (sym on ∙ nobody-there a))) (λ b n l on. absurd (true≢false (sym on ∙ nobody-there a)))
+      (λ b n l on. absurd (true≢false (sym on ∙ none-connected a))) (λ b n l on. absurd (true≢false (sym on ∙ none-connected a)))
       (λ e l on. query-strategy c m e) (λ e l on. set-strategy c m l e) r
 
   line-strategy : (c : ℕ) (line : List ℕ) → actionDeclined (s .sheet) s (Line c line) ≡ 0 → connected (lineWork (s .sheet) s c (asked line) .next) a ≡ true
@@ -115,11 +115,7 @@ module _ (s : State) (a j : ℕ) (ha : a < 8) (hj : j < 32) where
       → strategyNow a j (perform (s .sheet) s action .next) ≡ strategyGiven s a j action (strategyNow a j s)
   unfolding perform withReading
   perform-strategy (Connect c address) d n on = ap (λ (p : Subscription). p .strategy) (other-pair s a j ha hj c (clientAt address) n)
-  perform-strategy (Disconnect c) d n on = go (eqb c a) refl
-    where
-      go : (b : Bool) → eqb c a ≡ b → strategyNow a j (perform (s .sheet) s (Disconnect c) .next) ≡ strategyNow a j s
-      go true e = absurd (true≢false (sym on ∙ own-client s a ha c blankClient e))
-      go false e = ap (λ (p : Subscription). p .strategy) (other-pair s a j ha hj c blankClient e)
+  perform-strategy (Disconnect c) d n on = ap (λ (p : Subscription). p .strategy) (other-pair s a j ha hj c blankClient (still-connected s a ha c on))
   perform-strategy (Tick t) d n on = visit-strategy s a j ha hj (withClock s t) _
   perform-strategy (Reading k r) d n on = visit-strategy s a j ha hj (withReading s k (sampleGiven _ r)) _
   perform-strategy (Log level logger said) d n on = refl

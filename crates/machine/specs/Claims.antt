@@ -22,6 +22,10 @@ abbrev pub Fits : Type 0
 Fits = (s : State) (call : Call)
     → (length (written (step s call)) ≤ 65536) × Each (λ (d : Delivery). length (write (d .message)) ≤ 2048) (step s call .sent)
 
+-- every delivery goes to one of the clients 0–7, so its client is one byte
+abbrev pub SentToClients : Type 0
+SentToClients = (s : State) (call : Call) → Each (λ (d : Delivery). d .client < 8) (step s call .sent)
+
 -- every message that is sent is well-formed, so its line parses to itself
 abbrev pub SentReadsBack : Type 0
 SentReadsBack = (s : State) (call : Call)

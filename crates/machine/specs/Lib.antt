@@ -1,8 +1,8 @@
 pub mod Places
 pub mod Sheet
 pub mod State
-pub mod Range
 pub mod Opening
+pub mod Range
 pub mod Messages
 pub mod Report
 pub mod Requests

@@ -19,6 +19,14 @@ module _ (is : ℕ → Bool) where
       go true h = omega arith
       go false h = omega arith
 
+  pub run-all : (s : List ℕ) → all is (run is s) ≡ true
+  run-all [] = refl
+  run-all (b ∷ s) = go (is b) refl (run-all s)
+    where
+      go : (t : Bool) → is b ≡ t → all is (run is s) ≡ true → all is (cond t (b ∷ run is s) []) ≡ true
+      go true e h = rw e h
+      go false e h = refl
+
   pub run-take : (s : List ℕ) → take (length (run is s)) s ≡ run is s
   run-take [] = refl
   run-take (b ∷ s) = go (is b) (run-take s)
