@@ -64,7 +64,8 @@ fn blank(b: u8) -> bool
     (b == b' ') | (b == 9)
 }
 
-fn letter(b: u8) -> bool
+// A letter of ASCII.
+pub fn letter(b: u8) -> bool
     ensures { λ r. ⌜ r ≡ spec.letter b ⌝ }
 {
     ((b'A' <= b) & (b <= b'Z')) | ((b'a' <= b) & (b <= b'z'))

@@ -9,7 +9,7 @@ use Rattle.machine.specs.declared.State.{State}
 use Rattle.machine.specs.Places.{allBelow}
 use Rattle.machine.specs.Sheet.{sensorOf, sensorsOk, titlesOk}
 use Rattle.machine.specs.State.{clientOf, storedOf, present}
-use Rattle.machine.specs.Range.{sampleOk, clientOk, storedOk, storedNone, storedOkAt, pairOkAt, isBlank, inRange, isNone}
+use Rattle.machine.specs.Range.{sampleOk, clientOk, clientOkAt, storedOk, storedNone, storedOkAt, pairOkAt, isBlank, inRange, isNone}
 use Rattle.machine.proofs.TestLaws.{and-true, and-in, cond-true}
 use Rattle.machine.proofs.PlacesLaws.{below-at, below-of}
 use Rattle.machine.specs.declared.Strategy.{Strategy}
@@ -33,14 +33,14 @@ range-out s h =
     let c = and-true (inTime (s .clock)) _ (b .1) in
     let d = and-true (leb (s .level) 7) _ (c .1) in
     let e = and-true (allBelow (storedOkAt s) 32) _ (d .1) in
-    let f = and-true (allBelow (λ c. clientOk (clientOf s c)) 8) (allBelow (pairOkAt s) 256) (e .1) in
+    let f = and-true (allBelow (clientOkAt s) 8) (allBelow (pairOkAt s) 256) (e .1) in
     record {
       titles-in = a .0;
       sensors-in = b .0;
       clock-in = leb-true (s .clock) 9999999999999 (c .0);
       level-in = leb-true (s .level) 7 (d .0);
       stored-in = λ j k. below-at (storedOkAt s) 32 j (e .0) k;
-      client-in = λ c k. below-at (λ c. clientOk (clientOf s c)) 8 c (f .0) k;
+      client-in = λ c k. below-at (clientOkAt s) 8 c (f .0) k;
       pair-in = λ p k. below-at (pairOkAt s) 256 p (f .1) k;
     }
 
@@ -52,7 +52,7 @@ range-of s r =
     (and-in (inTime (s .clock)) _ (le-leb (s .clock) 9999999999999 (r .clock-in))
     (and-in (leb (s .level) 7) _ (le-leb (s .level) 7 (r .level-in))
     (and-in (allBelow (storedOkAt s) 32) _ (below-of (storedOkAt s) 32 (r .stored-in))
-    (and-in (allBelow (λ c. clientOk (clientOf s c)) 8) (allBelow (pairOkAt s) 256) (below-of (λ c. clientOk (clientOf s c)) 8 (r .client-in)) (below-of (pairOkAt s) 256 (r .pair-in)))))))
+    (and-in (allBelow (clientOkAt s) 8) (allBelow (pairOkAt s) 256) (below-of (clientOkAt s) 8 (r .client-in)) (below-of (pairOkAt s) 256 (r .pair-in)))))))
 
 -- a sensor's reading is one that the sensor can have, at a time that is not after the clock
 pub stored-is : (s : State) → InRange s → (j : ℕ) → j < s .sheet .count → j < 32

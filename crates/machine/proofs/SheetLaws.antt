@@ -13,7 +13,7 @@ use Rattle.machine.specs.declared.Choice.{Choice}
 use Rattle.machine.specs.declared.Sensor.{Sensor}
 use Rattle.machine.specs.declared.Sheet.{Sheet}
 use Rattle.machine.specs.Places.{any, allBelow, Each}
-use Rattle.machine.specs.Sheet.{noChoice, sensorOf, nameOf, optionOf, placeOf, notOnSheet, distinct, textOk, nameByte, printable, zeroByte, sensorOk, sensorNone, sensorsOk, limitsOk, choiceNone, choiceOk, optionsOk}
+use Rattle.machine.specs.Sheet.{noChoice, sensorOf, nameOf, optionOf, placeOf, notOnSheet, distinct, textOk, nameByte, printable, zeroByte, sensorOk, sensorNone, sensorOkAt, sensorsOk, limitsOk, choiceNone, choiceOk, optionsOk}
 use Rattle.machine.proofs.TestLaws.{and-true, cond-true}
 use Rattle.machine.proofs.PlacesLaws.{below-at, first-is, first-holds, each-weaker, each-any-false}
 
@@ -124,20 +124,17 @@ pub sensors-out : (sheet : Sheet) → sensorsOk sheet ≡ true → Sensors sheet
 unfolding sensorsOk
 sensors-out sheet h = record {
   count-most = leb-true (sheet .count) 32 (a .0);
-  sensor-is = λ j k. sensor-out (sensorOf sheet j) (there j k (lt-ltb j (sheet .count) k) (below-at at-place 32 j (b .0) (omega (arith, leb-true (sheet .count) 32 (a .0)))));
+  sensor-is = λ j k. sensor-out (sensorOf sheet j) (there j k (lt-ltb j (sheet .count) k) (below-at (sensorOkAt sheet) 32 j (b .0) (omega (arith, leb-true (sheet .count) 32 (a .0)))));
   names-differ = λ i j. distinct-out (λ j. nameOf (sensorOf sheet j)) (sheet .count) i j (b .1);
 }
   where
-    at-place : ℕ → Bool
-    at-place j = cond (ltb j (sheet .count)) (sensorOk (sensorOf sheet j)) (sensorNone (sensorOf sheet j))
-
-    a : (leb (sheet .count) 32 ≡ true) × (allBelow at-place 32 && distinct (λ j. nameOf (sensorOf sheet j)) (sheet .count) ≡ true)
+    a : (leb (sheet .count) 32 ≡ true) × (allBelow (sensorOkAt sheet) 32 && distinct (λ j. nameOf (sensorOf sheet j)) (sheet .count) ≡ true)
     a = and-true (leb (sheet .count) 32) _ h
 
-    b : (allBelow at-place 32 ≡ true) × (distinct (λ j. nameOf (sensorOf sheet j)) (sheet .count) ≡ true)
-    b = and-true (allBelow at-place 32) _ (a .1)
+    b : (allBelow (sensorOkAt sheet) 32 ≡ true) × (distinct (λ j. nameOf (sensorOf sheet j)) (sheet .count) ≡ true)
+    b = and-true (allBelow (sensorOkAt sheet) 32) _ (a .1)
 
-    there : (j : ℕ) → j < sheet .count → ltb j (sheet .count) ≡ true → at-place j ≡ true → sensorOk (sensorOf sheet j) ≡ true
+    there : (j : ℕ) → j < sheet .count → ltb j (sheet .count) ≡ true → sensorOkAt sheet j ≡ true → sensorOk (sensorOf sheet j) ≡ true
     there j k e t = sym (cond-true (ltb j (sheet .count)) (sensorOk (sensorOf sheet j)) (sensorNone (sensorOf sheet j)) e) ∙ t
 
 -- a sensor is found by its name

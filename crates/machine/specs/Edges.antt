@@ -15,9 +15,8 @@ use Rattle.machine.specs.declared.Sensor.{Sensor}
 use Rattle.machine.specs.declared.Strategy.{Strategy}
 use Rattle.machine.specs.declared.Strategy.the-variants.{Period, Differential, EventRate}
 use Rattle.machine.specs.declared.Subscription.{Subscription}
-use Rattle.machine.specs.Sheet.{noLimits}
 use Rattle.machine.specs.State.{blankSheet}
-use Rattle.machine.specs.Opening.{sensor}
+use Rattle.machine.specs.Opening.{sensor, withLimits}
 use Rattle.machine.specs.Messages.{statusFor}
 use Rattle.machine.specs.Report.{due}
 use Rattle.machine.specs.Requests.{asked}
@@ -41,11 +40,11 @@ limits = record { count = 4; «nominal_min» = 2 ^ 31; «nominal_max» = 2 ^ 31 
 
 -- an integer sensor with these
 abbrev pub limited : Sensor
-limited = sensor [] [] [] 1 limits []
+limited = withLimits (sensor [] [] [] 1) limits
 
 -- a float sensor without limits
 abbrev pub free : Sensor
-free = sensor [] [] [] 2 noLimits []
+free = sensor [] [] [] 2
 
 -- a subscription whose last report was 0.0 at 5.000
 abbrev pub since : Strategy → Subscription

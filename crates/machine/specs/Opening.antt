@@ -30,6 +30,12 @@ module _ {A B : Type 0} where
   andThen broken f = broken
   andThen (taken x rest) f = f x rest
 
+module _ {A : Type 0} where
+  -- so many of a kind, one after another
+  unfoldable pub manyAt : (List ℕ → Taken A) → ℕ → List ℕ → Taken (List A)
+  manyAt one zero s = taken [] s
+  manyAt one (suc k) s = andThen (one s) (λ x rest. andThen (manyAt one k rest) (λ xs q. taken (x ∷ xs) q))
+
 -- one byte
 abbrev pub byteAt : List ℕ → Taken ℕ
 byteAt [] = broken
@@ -79,21 +85,16 @@ limitsAt t s =
     andThen (byteAt s) (λ n rest. cond (eqb n 0) (taken noLimits rest) (cond (eqb n 2) (twoAt t rest) (cond (eqb n 4) (fourAt t rest) broken)))
 
 -- an option
-abbrev pub choice : List ℕ → Choice
-choice t = record { text = padded 16 t; len = length t }
-
--- k options
-unfoldable pub choicesAt : ℕ → List ℕ → Taken (List Choice)
-choicesAt zero s = taken [] s
-choicesAt (suc k) s = andThen (textAt 16 s) (λ t rest. andThen (choicesAt k rest) (λ os q. taken (choice t ∷ os) q))
+unfoldable pub choiceAt : List ℕ → Taken Choice
+choiceAt s = andThen (textAt 16 s) (λ t rest. taken (record { text = padded 16 t; len = length t }) rest)
 
 -- "option count", then so many; a fault where there are more than eight
 unfoldable pub optionsAt : List ℕ → Taken (List Choice)
-optionsAt s = andThen (byteAt s) (λ k rest. cond (leb k 8) (choicesAt k rest) broken)
+optionsAt s = andThen (byteAt s) (λ k rest. cond (leb k 8) (manyAt choiceAt k rest) broken)
 
--- a sensor by its parts
-abbrev pub sensor : List ℕ → List ℕ → List ℕ → ℕ → Limits → List Choice → Sensor
-sensor name description units t limits os = record {
+-- a sensor by its texts and its type, without limits and options
+abbrev pub sensor : List ℕ → List ℕ → List ℕ → ℕ → Sensor
+sensor name description units t = record {
   name = padded 32 name;
   «name_len» = length name;
   description = padded 64 description;
@@ -101,29 +102,36 @@ sensor name description units t limits os = record {
   units = padded 8 units;
   «units_len» = length units;
   kind = t;
-  limits = limits;
-  «option_count» = length os;
-  options = os ++ replicate (8 - length os) blankChoice;
+  limits = noLimits;
+  «option_count» = 0;
+  options = replicate 8 blankChoice;
 }
 
--- what follows the type: limits of types 1 and 2, options of type 4, nothing of types 3 and 5
-unfoldable pub restAt : List ℕ → List ℕ → List ℕ → ℕ → List ℕ → Taken Sensor
-restAt name description units t s =
-    cond (eqb t 1 || eqb t 2) (andThen (limitsAt t s) (λ l rest. taken (sensor name description units t l []) rest))
-    (cond (eqb t 4) (andThen (optionsAt s) (λ os rest. taken (sensor name description units t noLimits os) rest))
-    (cond (eqb t 3 || eqb t 5) (taken (sensor name description units t noLimits []) s)
-    broken))
+-- the sensor with limits
+abbrev pub withLimits : Sensor → Limits → Sensor
+withLimits n l = record { name = n .name; «name_len» = n .«name_len»; description = n .description; «description_len» = n .«description_len»; units = n .units; «units_len» = n .«units_len»; kind = n .kind; limits = l; «option_count» = n .«option_count»; options = n .options }
+
+-- the sensor with options
+abbrev pub withOptions : Sensor → List Choice → Sensor
+withOptions n os = record { name = n .name; «name_len» = n .«name_len»; description = n .description; «description_len» = n .«description_len»; units = n .units; «units_len» = n .«units_len»; kind = n .kind; limits = n .limits; «option_count» = length os; options = os ++ replicate (8 - length os) blankChoice }
 
 -- "Each sensor: name .., description (0–64) and units (0–8) .., type"
-unfoldable pub sensorAt : List ℕ → Taken Sensor
-sensorAt s =
+unfoldable pub headAt : List ℕ → Taken Sensor
+headAt s =
     andThen (textAt 32 s) (λ name r. andThen (textAt 64 r) (λ description q. andThen (textAt 8 q) (λ units p. andThen (byteAt p) (λ t o.
-    restAt name description units t o))))
+    taken (sensor name description units t) o))))
 
--- k sensors
-unfoldable pub sensorsAt : ℕ → List ℕ → Taken (List Sensor)
-sensorsAt zero s = taken [] s
-sensorsAt (suc k) s = andThen (sensorAt s) (λ n rest. andThen (sensorsAt k rest) (λ ns q. taken (n ∷ ns) q))
+-- what follows the type: limits of types 1 and 2, options of type 4, nothing of types 3 and 5
+unfoldable pub restAt : Sensor → List ℕ → Taken Sensor
+restAt n s =
+    cond (eqb (n .kind) 1 || eqb (n .kind) 2) (andThen (limitsAt (n .kind) s) (λ l rest. taken (withLimits n l) rest))
+    (cond (eqb (n .kind) 4) (andThen (optionsAt s) (λ os rest. taken (withOptions n os) rest))
+    (cond (eqb (n .kind) 3 || eqb (n .kind) 5) (taken n s)
+    broken))
+
+-- a sensor
+unfoldable pub sensorAt : List ℕ → Taken Sensor
+sensorAt s = andThen (headAt s) restAt
 
 -- a sheet by its parts
 abbrev pub sheetBy : List ℕ → List ℕ → List Sensor → Sheet
@@ -144,7 +152,7 @@ mark = text "LGU" ++ (0 ∷ 1 ∷ [])
 unfoldable pub bodyAt : List ℕ → Taken Sheet
 bodyAt s =
     andThen (textAt 32 s) (λ api r. andThen (textAt 32 r) (λ build q. andThen (byteAt q) (λ k p.
-    cond (leb k 32) (andThen (sensorsAt k p) (λ ns o. taken (sheetBy api build ns) o)) broken)))
+    cond (leb k 32) (andThen (manyAt sensorAt k p) (λ ns o. taken (sheetBy api build ns) o)) broken)))
 
 -- the whole layout
 unfoldable pub sheetAt : List ℕ → Taken Sheet

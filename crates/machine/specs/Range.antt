@@ -87,6 +87,10 @@ pairOkAt s p =
     pairNone (pairAt s p)
     || (connected s (p / 32) && (ltb (p % 32) (s .sheet .count) && pairReported (s .clock) (sensorOf (s .sheet) (p % 32)) (pairAt s p)))
 
+-- the client of a number
+abbrev pub clientOkAt : State → ℕ → Bool
+clientOkAt s c = clientOk (clientOf s c)
+
 -- no client is connected
 unfoldable pub noClients : State → Bool
 noClients s = allBelow (λ c. not (connected s c)) 8
@@ -103,5 +107,5 @@ inRange s =
     && (inTime (s .clock)
     && (leb (s .level) 7
     && (allBelow (storedOkAt s) 32
-    && (allBelow (λ c. clientOk (clientOf s c)) 8
+    && (allBelow (clientOkAt s) 8
     && allBelow (pairOkAt s) 256)))))

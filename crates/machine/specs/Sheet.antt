@@ -157,11 +157,15 @@ sensorNone n =
     && (limitsNone (n .limits)
     && (eqb (n .«option_count») 0 && allBelow (λ k. choiceNone (getD (n .options) k noChoice)) 8)))))
 
+-- a place of the sheet: a sensor below the count, none from there on
+abbrev pub sensorOkAt : Sheet → ℕ → Bool
+sensorOkAt sheet j = cond (ltb j (sheet .count)) (sensorOk (sensorOf sheet j)) (sensorNone (sensorOf sheet j))
+
 -- "Sensor count 0–32", each sensor, names "all distinct"
 unfoldable pub sensorsOk : Sheet → Bool
 sensorsOk sheet =
     leb (sheet .count) 32
-    && (allBelow (λ j. cond (ltb j (sheet .count)) (sensorOk (sensorOf sheet j)) (sensorNone (sensorOf sheet j))) 32
+    && (allBelow (sensorOkAt sheet) 32
     && distinct (λ j. nameOf (sensorOf sheet j)) (sheet .count))
 
 -- "API text and build text: length byte 1–32, bytes 0x21–0x7E"

@@ -106,9 +106,13 @@ withReading s j x = withReadings s (tabulate (λ i. cond (eqb i j) (record { sam
 abbrev pub startLevel : ℕ
 startLevel = 4
 
--- "A fresh sensor is unknown at time 0"
+-- "A fresh sensor is unknown at time 0": the reading at a place, where a sensor of that type is there
+abbrev pub freshStored : Bool → ℕ → Stored
+freshStored there t = cond there (record { sample = freshSample t; time = 0 }) noStored
+
+-- the readings of a fresh device
 unfoldable pub freshReadings : Sheet → List Stored
-freshReadings sheet = tabulate (λ j. cond (ltb j (sheet .count)) (record { sample = freshSample (sensorOf sheet j .kind); time = 0 }) noStored) 32
+freshReadings sheet = tabulate (λ j. freshStored (ltb j (sheet .count)) (sensorOf sheet j .kind)) 32
 
 -- the state that opening a sheet returns: "clock (0), halted flag (clear), log level (info)", readings, and "unconnected (all at first)"
 abbrev pub fresh : Sheet → State

@@ -2,7 +2,7 @@
 use value::Limits;
 use value::Sample;
 ghost use mathlib.Core.Path.{_≡_};
-ghost use Rattle.machine.specs.State.{startLevel, noSubscription};
+ghost use Rattle.machine.specs.State.{startLevel, noSubscription, blankClient};
 
 // An option of a discrete sensor: the first `len` bytes of `text`.
 pub struct Choice {
@@ -127,5 +127,16 @@ pub fn no_subscription() -> Subscription
         reported: false,
         sample: Sample { kind: 0, number: 0 },
         time: 0,
+    }
+}
+
+// A client that is not connected.
+pub fn blank_client() -> Client
+    ensures { λ r. ⌜ r ≡ blankClient ⌝ }
+{
+    Client {
+        connected: false,
+        address: [0; 48],
+        address_len: 0,
     }
 }
