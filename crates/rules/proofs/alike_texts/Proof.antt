@@ -1,0 +1,13 @@
+-- The tests are those of the definition.
+use borrow.Author.Needs.{needs}
+use Rattle.rules.proofs.alike_texts.Statement.{statement}
+use Rattle.rules.proofs.alike_texts.Tie as tie
+
+same-bytes-requires : tie.Need-same-bytes-requires
+same-bytes-requires c κs = search needs
+
+returns : tie.Need-returns
+returns c = rw (c .same-bytes .ensures)
+
+pub alike-texts-spec : {M : Type 1} → statement M
+alike-texts-spec = tie.close (tie.spec same-bytes-requires returns)

@@ -1,0 +1,33 @@
+-- The variant names the test.
+use borrow.Author.Needs.{needs}
+use Rattle.machine.specs.Sheet.{graphic, printable}
+use Rattle.rules.proofs.in_charset.Statement.{statement}
+use Rattle.rules.proofs.in_charset.Tie as tie
+
+enum-told : tie.Need-enum-told
+enum-told c = search needs
+
+name-byte-requires : tie.Need-name-byte-requires
+name-byte-requires c κs = search needs
+
+enum-told-2 : tie.Need-enum-told-2
+enum-told-2 c = search needs
+
+enum-told-3 : tie.Need-enum-told-3
+enum-told-3 c = search needs
+
+returns : tie.Need-returns
+returns c = rw (c .before .enum-told .given .1) (c .name-byte .ensures)
+
+returns-2 : tie.Need-returns-2
+unfolding graphic
+returns-2 c = rw (c .enum-told2 .given .1)
+
+returns-3 : tie.Need-returns-3
+unfolding printable
+returns-3 c = rw (c .enum-told3 .given .1)
+
+pub in-charset-spec : {M : Type 1} → statement M
+in-charset-spec =
+    tie.close
+    (tie.spec enum-told name-byte-requires enum-told-2 enum-told-3 returns returns-2 returns-3)

@@ -1,0 +1,79 @@
+-- The invariant: what is found is that no pair below q is alike. After the loop q is 1024. The lengths of the names are those of the array's elements.
+use Prim.Native.Nat.{_≤_, _-_}
+use native.Mathlib.Numerals.{add-one}
+use native.Mathlib.Omega.{arith}
+use mathlib.Core.Path.{_≡_, refl, sym}
+use borrow.Author.Needs.{needs}
+use Rattle.machine.specs.Places.{allBelow}
+use Rattle.rules.specs.Apart.{apartAt, namesAlike, namesApart}
+use Rattle.rules.proofs.ElementLaws.{names-long}
+use Rattle.rules.proofs.names_apart.Statement.{statement}
+use Rattle.rules.proofs.names_apart.Tie as tie
+
+abbrev Inv-loop : tie.InvT-loop
+Inv-loop sheet count ok₀ q₀ ok q = (q ≤ 1024) × (ok ≡ allBelow (apartAt 32 count (namesAlike sheet)) q)
+
+abbrev μ-loop : tie.MeasureT-loop
+μ-loop sheet count ok₀ q₀ ok q = 1024 - q
+
+cast-count : tie.Need-cast-count Inv-loop μ-loop
+cast-count c = search needs
+
+loop-holds : tie.Need-loop-holds Inv-loop μ-loop
+unfolding allBelow
+loop-holds c = (omega arith, refl)
+
+mul-one : tie.Need-mul-one Inv-loop μ-loop
+mul-one c = search needs
+
+element-copy-out-one : tie.Need-element-copy-out-one Inv-loop μ-loop
+element-copy-out-one c = search needs
+
+mul-other : tie.Need-mul-other Inv-loop μ-loop
+mul-other c = search needs
+
+element-copy-out-other : tie.Need-element-copy-out-other Inv-loop μ-loop
+element-copy-out-other c = search needs
+
+slice-aggregate-alike-texts : tie.Need-slice-aggregate-alike-texts Inv-loop μ-loop
+slice-aggregate-alike-texts c = sym (names-long (c .before .before .before .before .before .before .before .args .t1) _ (c .before .before .before .before .before .before .before .good .0) _ (omega arith))
+
+slice-aggregate-alike-texts-2 : tie.Need-slice-aggregate-alike-texts-2 Inv-loop μ-loop
+slice-aggregate-alike-texts-2 c = sym (names-long (c .before .before .before .before .before .before .before .before .args .t1) _ (c .before .before .before .before .before .before .before .before .good .0) _ (omega arith))
+
+alike-texts-requires : tie.Need-alike-texts-requires Inv-loop μ-loop
+alike-texts-requires c κs = search needs
+
+add-q : tie.Need-add-q Inv-loop μ-loop
+add-q c = search needs
+
+loop-less : tie.Need-loop-less Inv-loop μ-loop
+loop-less c = search needs
+
+loop-again : tie.Need-loop-again Inv-loop μ-loop
+unfolding allBelow apartAt
+loop-again c = (omega arith, rw (add-one, c .before .before .before .before .before .before .before .before .loop .inv .1, c .alike-texts .ensures))
+
+returns : tie.Need-returns Inv-loop μ-loop
+unfolding namesApart
+returns c = let e : c .before .loop .q ≡ 1024 = omega arith in rw (c .before .loop .inv .1, e)
+
+pub names-apart-spec : {M : Type 1} → statement M
+names-apart-spec =
+    tie.close
+    (tie.spec
+    Inv-loop
+    μ-loop
+    cast-count
+    loop-holds
+    mul-one
+    element-copy-out-one
+    mul-other
+    element-copy-out-other
+    slice-aggregate-alike-texts
+    slice-aggregate-alike-texts-2
+    alike-texts-requires
+    add-q
+    loop-less
+    loop-again
+    returns)

@@ -1,0 +1,52 @@
+-- What is found so far, and the test of the rest, is the test of the whole.
+use Prim.Native.Nat.{_-_}
+use native.Mathlib.Omega.{arith}
+use lib.ListN.{length}
+use borrow.Author.Needs.{needs}
+use Rattle.machine.specs.Sheet.{textOk}
+use Rattle.rules.specs.Texts.{inCharset}
+use Rattle.rules.proofs.PassLaws.{Filling, filling, filling-on, filling-end}
+use Rattle.rules.proofs.text_ok.Statement.{statement}
+use Rattle.rules.proofs.text_ok.Tie as tie
+
+abbrev Inv-loop : tie.InvT-loop
+Inv-loop bytes len least most charset n ok₀ i₀ ok i = Filling (inCharset charset) n bytes ok i
+
+abbrev μ-loop : tie.MeasureT-loop
+μ-loop bytes len least most charset n ok₀ i₀ ok i = length bytes - i
+
+loop-holds : tie.Need-loop-holds Inv-loop μ-loop
+loop-holds c = filling _ _ _
+
+shared-slice-read-b : tie.Need-shared-slice-read-b Inv-loop μ-loop
+shared-slice-read-b c = omega arith
+
+in-charset-requires : tie.Need-in-charset-requires Inv-loop μ-loop
+in-charset-requires c κs = search needs
+
+add-i : tie.Need-add-i Inv-loop μ-loop
+add-i c = omega arith
+
+loop-less : tie.Need-loop-less Inv-loop μ-loop
+loop-less c = omega arith
+
+loop-again : tie.Need-loop-again Inv-loop μ-loop
+loop-again c = rw (c .in-charset .ensures) (filling-on (c .before .before .before .loop .inv) (omega arith))
+
+returns : tie.Need-returns Inv-loop μ-loop
+unfolding textOk
+returns c = rw (filling-end (c .before .loop .inv) (omega arith))
+
+pub text-ok-spec : {M : Type 1} → statement M
+text-ok-spec =
+    tie.close
+    (tie.spec
+    Inv-loop
+    μ-loop
+    loop-holds
+    shared-slice-read-b
+    in-charset-requires
+    add-i
+    loop-less
+    loop-again
+    returns)
