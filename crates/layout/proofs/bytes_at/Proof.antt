@@ -1,0 +1,25 @@
+-- As many bytes as are asked for, where the sheet has them behind the cursor; past its end only none can be taken.
+use borrow.Author.Needs.{needs}
+use native.Mathlib.Omega.{arith}
+use denote.Ref.{now}
+use Rattle.layout.proofs.TakenLaws.{bytes-there, bytes-short, bytes-past}
+use Rattle.layout.proofs.bytes_at.Statement.{statement}
+use Rattle.layout.proofs.bytes_at.Tie as tie
+
+add-t9 : tie.Need-add-t9
+add-t9 c = search needs
+
+returns : tie.Need-returns
+returns c = (bytes-there (now (c .before .before .args .s)) (c .before .before .args .c .at) (c .before .before .args .n) (omega arith) (omega arith), omega arith)
+
+returns-2 : tie.Need-returns-2
+returns-2 c = (bytes-short (now (c .before .before .args .s)) (c .before .before .args .c .at) (c .before .before .args .n) (omega arith), tt)
+
+returns-3 : tie.Need-returns-3
+returns-3 c = (rw (c .if3 .taken) (bytes-past (now (c .before .before .args .s)) (c .before .before .args .c .at) (omega arith)), omega arith)
+
+returns-4 : tie.Need-returns-4
+returns-4 c = (bytes-short (now (c .before .before .args .s)) (c .before .before .args .c .at) (c .before .before .args .n) (omega arith), tt)
+
+pub bytes-at-spec : {M : Type 1} → statement M
+bytes-at-spec = tie.close (tie.spec add-t9 returns returns-2 returns-3 returns-4)
