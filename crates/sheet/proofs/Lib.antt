@@ -1,0 +1,2 @@
+pub mod StoreLaws
+pub mod OpenLaws

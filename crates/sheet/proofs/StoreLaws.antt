@@ -1,0 +1,46 @@
+-- A list that is written from its start on: the new elements, and then the old ones that are left; and a store at one place.
+use Prim.Native.Nat.{ℕ, suc, _+_, _<_}
+use native.Mathlib.Omega.{arith}
+use native.Mathlib.Numerals.{add-one}
+use mathlib.Core.Path.{_≡_, refl, sym, _∙_}
+use mathlib.Core.Bool.{Bool, true, false, cond}
+use mathlib.Core.List.{List, [], _∷_, _++_, append-assoc, append-nil}
+use lib.Dec.{eqb}
+use lib.ListN.{length, getD, set, drop, length-set, drop-of-length-le}
+use lib.Seq.{drop-cons, set-at, getD-set-same, getD-set-other, ext-getD}
+use borrow.Author.Tests.{eqb-true, eqb-false}
+use Rattle.machine.specs.Places.{tabulate}
+use Rattle.machine.proofs.PlacesLaws.{length-tabulate, getD-tabulate}
+
+module _ {A : Type 0} (f : ℕ → A) where
+  -- one more element written
+  pub filled-one : (l : List A) (n : ℕ) → n < length l → set (tabulate f n ++ drop n l) n (f n) ≡ tabulate f (n + 1) ++ drop (n + 1) l
+  unfolding tabulate
+  filled-one l n h =
+      rw (add-one, drop-cons l n (f n) h, set-at (tabulate f n) (getD l n (f n)) (drop (suc n) l) (f n) n (length-tabulate f n))
+      (sym (append-assoc (tabulate f n) (f n ∷ []) (drop (suc n) l)))
+
+  -- all written
+  pub filled-all : (l : List A) (n : ℕ) → length l ≡ n → tabulate f n ++ drop n l ≡ tabulate f n
+  filled-all l n h = rw (drop-of-length-le l {i = n} (omega arith)) (append-nil (tabulate f n))
+
+module _ {A : Type 0} where
+  -- a list is its elements by place
+  pub by-place : (l : List A) (d : A) → l ≡ tabulate (λ k. getD l k d) (length l)
+  by-place l d =
+      ext-getD d l (tabulate (λ k. getD l k d) (length l)) (sym (length-tabulate (λ k. getD l k d) (length l)))
+      (λ i h. sym (getD-tabulate (λ k. getD l k d) (length l) i d h))
+
+  -- what stands at a place after a store
+  abbrev pub stored-at : List A → ℕ → A → A → ℕ → A
+  stored-at l i x d k = cond (eqb k i) x (getD l k d)
+
+  -- a store, by place
+  pub set-by-place : (l : List A) (i : ℕ) (x d : A) → i < length l → set l i x ≡ tabulate (λ k. cond (eqb k i) x (getD l k d)) (length l)
+  set-by-place l i x d h =
+      ext-getD d (set l i x) (tabulate (stored-at l i x d) (length l)) (length-set l i x ∙ sym (length-tabulate (stored-at l i x d) (length l)))
+      (λ k m. go k (eqb k i) refl ∙ sym (getD-tabulate (stored-at l i x d) (length l) k d (omega (arith, length-set l i x))))
+    where
+      go : (k : ℕ) (b : Bool) → eqb k i ≡ b → getD (set l i x) k d ≡ cond b x (getD l k d)
+      go k true e = rw (eqb-true k i e) (getD-set-same l i x d h)
+      go k false e = getD-set-other l i k x d (eqb-false k i e)

@@ -1,0 +1,57 @@
+-- The invariant: the clients passed are in range. The measure is the clients that are left.
+use Prim.Native.Nat.{_≤_, _-_}
+use mathlib.Core.Path.{_≡_, refl}
+use native.Mathlib.Numerals.{add-one}
+use native.Mathlib.Omega.{arith}
+use borrow.Author.Needs.{needs}
+use Rattle.machine.specs.Places.{allBelow}
+use Rattle.machine.specs.Range.{clientOkAt}
+use Rattle.sheet.proofs.clients_ok.Statement.{statement}
+use Rattle.sheet.proofs.clients_ok.Tie as tie
+
+abbrev Inv-loop : tie.InvT-loop
+Inv-loop s ok₀ c₀ ok c = (c ≤ 8) × (ok ≡ allBelow (clientOkAt s) c)
+
+abbrev μ-loop : tie.MeasureT-loop
+μ-loop s ok₀ c₀ ok c = 8 - c
+
+loop-holds : tie.Need-loop-holds Inv-loop μ-loop
+unfolding allBelow
+loop-holds c = (omega arith, refl)
+
+mul-client : tie.Need-mul-client Inv-loop μ-loop
+mul-client c = search needs
+
+element-copy-out-client : tie.Need-element-copy-out-client Inv-loop μ-loop
+element-copy-out-client c = search needs
+
+client-ok-requires : tie.Need-client-ok-requires Inv-loop μ-loop
+client-ok-requires c κs = search needs
+
+add-c : tie.Need-add-c Inv-loop μ-loop
+add-c c = search needs
+
+loop-less : tie.Need-loop-less Inv-loop μ-loop
+loop-less c = search needs
+
+loop-again : tie.Need-loop-again Inv-loop μ-loop
+unfolding allBelow
+loop-again c = (omega arith, rw (add-one, c .before .before .before .loop .inv .1, c .client-ok .ensures))
+
+returns : tie.Need-returns Inv-loop μ-loop
+returns c = let e : c .before .loop .c ≡ 8 = omega arith in rw (c .before .loop .inv .1, e)
+
+pub clients-ok-spec : {M : Type 1} → statement M
+clients-ok-spec =
+    tie.close
+    (tie.spec
+    Inv-loop
+    μ-loop
+    loop-holds
+    mul-client
+    element-copy-out-client
+    client-ok-requires
+    add-c
+    loop-less
+    loop-again
+    returns)

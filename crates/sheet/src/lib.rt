@@ -1,0 +1,338 @@
+//! Opening a sheet, and the check of a state that every other call begins with.
+use layout::SheetTaken;
+use machine::Client;
+use machine::Opened;
+use machine::Sensor;
+use machine::Sheet;
+use machine::State;
+use machine::Stored;
+use machine::Strategy;
+use machine::Subscription;
+use rules::Charset;
+use value::Sample;
+ghost use mathlib.Core.Path.{_≡_};
+ghost use mathlib.Core.Bool.{cond};
+ghost use Rattle.value.specs.Reading as readings;
+ghost use Rattle.machine.specs.Places.{allBelow};
+ghost use Rattle.machine.specs.State as states;
+ghost use Rattle.machine.specs.Opening as opening;
+ghost use Rattle.machine.specs.Range as ranges;
+
+// What stands at a place without a sensor.
+fn no_stored() -> Stored
+    ensures { λ r. ⌜ r ≡ states.noStored ⌝ }
+{
+    Stored {
+        sample: Sample { kind: 0, number: 0 },
+        time: 0,
+    }
+}
+
+// The reading that a sensor of a type starts with, where there is one: unknown, at time 0.
+fn fresh_stored(there: bool, kind: u8) -> Stored
+    ensures { λ r. ⌜ r ≡ states.freshStored there kind ⌝ }
+{
+    if there {
+        return Stored {
+            sample: value::invalid_sample(kind, 0),
+            time: 0,
+        };
+    }
+    no_stored()
+}
+
+fn fresh_readings(sheet: Sheet) -> [Stored; 32]
+    ensures { λ r. ⌜ r ≡ states.freshReadings sheet ⌝ }
+{
+    let count = sheet.count as usize;
+    let mut readings = [no_stored(); 32];
+    let mut j: usize = 0;
+    while j < 32 {
+        let sensor = sheet.sensors[j];
+        readings[j] = fresh_stored(j < count, sensor.kind);
+        j += 1;
+    }
+    readings
+}
+
+// The state of a device that has just been opened. All 256 subscriptions, of 8 clients to 32 sensors, start as none.
+fn fresh_state(sheet: Sheet) -> State
+    ensures { λ r. ⌜ r ≡ states.fresh sheet ⌝ }
+{
+    let readings = fresh_readings(sheet);
+    let clients = [machine::blank_client(); 8];
+    let subscriptions = [machine::no_subscription(); 256];
+    State {
+        sheet: sheet,
+        clock: 0,
+        halted: false,
+        level: machine::start_level(),
+        readings: readings,
+        clients: clients,
+        subscriptions: subscriptions,
+    }
+}
+
+// The state that a broken sheet gives: halted, with nothing in it.
+fn blank_state() -> State
+    ensures { λ r. ⌜ r ≡ states.blank ⌝ }
+{
+    let sheet = layout::blank_sheet();
+    let readings = [no_stored(); 32];
+    let clients = [machine::blank_client(); 8];
+    let subscriptions = [machine::no_subscription(); 256];
+    State {
+        sheet: sheet,
+        clock: 0,
+        halted: true,
+        level: 0,
+        readings: readings,
+        clients: clients,
+        subscriptions: subscriptions,
+    }
+}
+
+fn refused() -> Opened
+    ensures { λ r. ⌜ r ≡ opening.refused ⌝ }
+{
+    Opened {
+        number: 4,
+        state: blank_state(),
+    }
+}
+
+// Number 0 and the fresh state of a sheet, or 4 and the blank state where the bytes are no sheet.
+pub fn open(sheet: &[u8]) -> Opened
+    ensures { λ r. ⌜ r ≡ opening.opened (now (sheet .entry)) ⌝ }
+{
+    let r = layout::sheet_at(sheet);
+    if !r.taken {
+        return refused();
+    }
+    let whole = r.sheet;
+    let last = r.behind;
+    let ended = sheet.len() <= last.at;
+    let kept = rules::sheet_ok(whole);
+    if ended & kept {
+        return Opened {
+            number: 0,
+            state: fresh_state(whole),
+        };
+    }
+    refused()
+}
+
+// A stored number of a valid value of a type.
+fn number_fits(kind: u8, options: u8, n: u64) -> bool
+    ensures { λ r. ⌜ r ≡ readings.numberFits kind options n ⌝ }
+{
+    match kind {
+        1 => n < 4294967296,
+        2 => n <= 2147483648,
+        3 => n <= 1,
+        4 => n < options as u64,
+        _ => n <= 9999999999999,
+    }
+}
+
+// A sample that a sensor can have.
+fn sample_ok(sensor: Sensor, x: Sample) -> bool
+    ensures { λ r. ⌜ r ≡ ranges.sampleOk sensor x ⌝ }
+{
+    let fits = number_fits(sensor.kind, sensor.option_count, x.number);
+    let zero = value::zero_of(sensor.kind);
+    if x.kind == 1 {
+        return fits;
+    }
+    (x.kind <= 4) & (x.number == zero)
+}
+
+fn sample_none(x: Sample) -> bool
+    ensures { λ r. ⌜ r ≡ ranges.sampleNone x ⌝ }
+{
+    (x.kind == 0) & (x.number == 0)
+}
+
+// The reading of a sensor, or what stands at a place without one.
+fn stored_ok(there: bool, clock: u64, sensor: Sensor, r: Stored) -> bool
+    ensures { λ q. ⌜ q ≡ cond there (ranges.storedOk clock sensor r) (ranges.storedNone r) ⌝ }
+{
+    let fits = sample_ok(sensor, r.sample);
+    let none = sample_none(r.sample);
+    if there {
+        return fits & (r.time <= clock);
+    }
+    none & (r.time == 0)
+}
+
+fn readings_ok(s: State) -> bool
+    ensures { λ r. ⌜ r ≡ allBelow (ranges.storedOkAt s) 32 ⌝ }
+{
+    let sheet = s.sheet;
+    let count = sheet.count as usize;
+    let mut ok = true;
+    let mut j: usize = 0;
+    while j < 32 {
+        let sensor = sheet.sensors[j];
+        let stored = s.readings[j];
+        ok = ok & stored_ok(j < count, s.clock, sensor, stored);
+        j += 1;
+    }
+    ok
+}
+
+// A client's address, or none.
+fn client_ok(client: Client) -> bool
+    ensures { λ r. ⌜ r ≡ ranges.clientOk client ⌝ }
+{
+    let address = client.address;
+    if client.connected {
+        return rules::text_ok(&address, client.address_len, 1, 48, Charset::Graphic);
+    }
+    rules::text_ok(&address, client.address_len, 0, 0, Charset::Graphic)
+}
+
+fn clients_ok(s: State) -> bool
+    ensures { λ r. ⌜ r ≡ allBelow (ranges.clientOkAt s) 8 ⌝ }
+{
+    let mut ok = true;
+    let mut c: usize = 0;
+    while c < 8 {
+        let client = s.clients[c];
+        ok = ok & client_ok(client);
+        c += 1;
+    }
+    ok
+}
+
+fn no_clients(s: State) -> bool
+    ensures { λ r. ⌜ r ≡ ranges.noClients s ⌝ }
+{
+    let mut ok = true;
+    let mut c: usize = 0;
+    while c < 8 {
+        let client = s.clients[c];
+        ok = ok & !client.connected;
+        c += 1;
+    }
+    ok
+}
+
+fn period_ok(p: u64) -> bool
+    ensures { λ r. ⌜ r ≡ ranges.periodOk p ⌝ }
+{
+    (1 <= p) & (p <= 86400000)
+}
+
+fn rates_ok(shortest: u64, longest: u64) -> bool
+    ensures { λ r. ⌜ r ≡ ranges.ratesOk shortest longest ⌝ }
+{
+    (shortest <= longest) & period_ok(longest)
+}
+
+fn difference_ok(kind: u8, d: u64) -> bool
+    ensures { λ r. ⌜ r ≡ ranges.differenceOk kind d ⌝ }
+{
+    if kind == 1 {
+        return (d <= 4294967295000000) & (d % 1000000 == 0);
+    }
+    (kind == 2) & (d <= 2097152000000)
+}
+
+// A strategy that a sensor of a type can have.
+fn strategy_ok(kind: u8, strategy: Strategy) -> bool
+    ensures { λ r. ⌜ r ≡ ranges.strategyOk kind strategy ⌝ }
+{
+    match strategy {
+        Strategy::None => true,
+        Strategy::Auto => true,
+        Strategy::Period(period) => period_ok(period),
+        Strategy::Event => true,
+        Strategy::Differential(difference) => difference_ok(kind, difference),
+        Strategy::EventRate(shortest, longest) => rates_ok(shortest, longest),
+        Strategy::DifferentialRate(difference, shortest, longest) => {
+            difference_ok(kind, difference) & rates_ok(shortest, longest)
+        }
+    }
+}
+
+fn is_none(strategy: Strategy) -> bool
+    ensures { λ r. ⌜ r ≡ ranges.isNone strategy ⌝ }
+{
+    match strategy {
+        Strategy::None => true,
+        Strategy::Auto => false,
+        Strategy::Period(_) => false,
+        Strategy::Event => false,
+        Strategy::Differential(_) => false,
+        Strategy::EventRate(_, _) => false,
+        Strategy::DifferentialRate(_, _, _) => false,
+    }
+}
+
+// A subscription without a report.
+fn pair_none(p: Subscription) -> bool
+    ensures { λ r. ⌜ r ≡ ranges.pairNone p ⌝ }
+{
+    let strategy = p.strategy;
+    let none = is_none(strategy);
+    let empty = sample_none(p.sample);
+    !p.reported & (none & (empty & (p.time == 0)))
+}
+
+// A subscription with a report.
+fn pair_reported(clock: u64, sensor: Sensor, p: Subscription) -> bool
+    ensures { λ r. ⌜ r ≡ ranges.pairReported clock sensor p ⌝ }
+{
+    let strategy = p.strategy;
+    let suits = strategy_ok(sensor.kind, strategy);
+    let held = sample_ok(sensor, p.sample);
+    p.reported & (suits & (held & (p.time <= clock)))
+}
+
+fn pairs_ok(s: State) -> bool
+    ensures { λ r. ⌜ r ≡ allBelow (ranges.pairOkAt s) 256 ⌝ }
+{
+    let sheet = s.sheet;
+    let count = sheet.count as usize;
+    let mut ok = true;
+    let mut p: usize = 0;
+    while p < 256 {
+        let c = p / 32;
+        let j = p % 32;
+        let client = s.clients[c];
+        let sensor = sheet.sensors[j];
+        let pair = s.subscriptions[p];
+        let none = pair_none(pair);
+        let reported = pair_reported(s.clock, sensor, pair);
+        ok = ok & (none | (client.connected & ((j < count) & reported)));
+        p += 1;
+    }
+    ok
+}
+
+// What, in range, only the blank state has.
+fn is_blank(s: State) -> bool
+    ensures { λ r. ⌜ r ≡ ranges.isBlank s ⌝ }
+{
+    let sheet = s.sheet;
+    let titles = rules::titles_none(sheet);
+    let alone = no_clients(s);
+    titles & ((sheet.count == 0) & (alone & (s.halted & ((s.level == 0) & (s.clock == 0)))))
+}
+
+// Whether every field of a state is within what document 01 allows: where not, a call is declined with number 1.
+pub fn in_range(s: State) -> bool
+    ensures { λ r. ⌜ r ≡ ranges.inRange s ⌝ }
+{
+    let sheet = s.sheet;
+    let titles = rules::titles_ok(sheet);
+    let blank = is_blank(s);
+    let sensors = rules::sensors_ok(sheet);
+    let readings = readings_ok(s);
+    let clients = clients_ok(s);
+    let pairs = pairs_ok(s);
+    (titles | blank)
+        & (sensors
+            & ((s.clock <= 9999999999999) & ((s.level <= 7) & (readings & (clients & pairs)))))
+}
