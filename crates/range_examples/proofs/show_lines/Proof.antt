@@ -1,0 +1,81 @@
+-- Each line ends within the text, and the next one starts behind its end.
+use borrow.Author.Needs.{needs}
+use native.Mathlib.Omega.{arith}
+use Prim.Native.Nat.{_≤_, _-_, _+_}
+use lib.ListN.{length}
+use Rattle.line.proofs.FirstLine.{first-line-fits}
+use Rattle.range_examples.proofs.show_lines.Statement.{statement}
+use Rattle.range_examples.proofs.show_lines.Tie as tie
+
+abbrev Inv-loop : tie.InvT-loop
+Inv-loop s blank state₀ at₀ state at = at ≤ length s + 1
+
+abbrev μ-loop : tie.MeasureT-loop
+μ-loop s blank state₀ at₀ state at = length s + 1 - at
+
+-- the line that starts at `at` ends within the text
+ends : (c : tie.After-line-len Inv-loop μ-loop) → c .before .before .before .loop .at + c .line-len .result ≤ length (c .before .before .before .before .before .args .s .now)
+ends c = first-line-fits (c .before .before .before .before .before .args .s .now) (c .before .before .before .loop .at) (c .line-len .result) (omega arith) (c .line-len .ensures)
+
+loop-holds : tie.Need-loop-holds Inv-loop μ-loop
+loop-holds c = search needs
+
+sub-line-len : tie.Need-sub-line-len Inv-loop μ-loop
+sub-line-len c = search needs
+
+part-line-len-start : tie.Need-part-line-len-start Inv-loop μ-loop
+part-line-len-start c = search needs
+
+part-line-len-end : tie.Need-part-line-len-end Inv-loop μ-loop
+part-line-len-end c = search needs
+
+line-len-requires : tie.Need-line-len-requires Inv-loop μ-loop
+line-len-requires c κs = search needs
+
+add-e : tie.Need-add-e Inv-loop μ-loop
+add-e c = omega (arith, ends c)
+
+sub-show : tie.Need-sub-show Inv-loop μ-loop
+sub-show c = search needs
+
+part-show-start : tie.Need-part-show-start Inv-loop μ-loop
+part-show-start c = search needs
+
+part-show-end : tie.Need-part-show-end Inv-loop μ-loop
+part-show-end c = omega (arith, ends c)
+
+show-requires : tie.Need-show-requires Inv-loop μ-loop
+show-requires c κs = search needs
+
+add-at : tie.Need-add-at Inv-loop μ-loop
+add-at c = omega (arith, ends (c .before .before))
+
+loop-less : tie.Need-loop-less Inv-loop μ-loop
+loop-less c = omega arith
+
+loop-again : tie.Need-loop-again Inv-loop μ-loop
+loop-again c = omega (arith, ends (c .before .before))
+
+returns : tie.Need-returns Inv-loop μ-loop
+returns c = search needs
+
+pub show-lines-spec : {M : Type 1} → statement M
+show-lines-spec =
+    tie.close
+    (tie.spec
+    Inv-loop
+    μ-loop
+    loop-holds
+    sub-line-len
+    part-line-len-start
+    part-line-len-end
+    line-len-requires
+    add-e
+    sub-show
+    part-show-start
+    part-show-end
+    show-requires
+    add-at
+    loop-less
+    loop-again
+    returns)
