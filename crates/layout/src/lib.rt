@@ -233,11 +233,15 @@ fn limit_at(s: &[u8], c: Cursor, kind: u8) -> NumberTaken
         return NumberTaken::NoNumber;
     };
     let w = &s[a..e];
+    let first = w[0];
+    let second = w[1];
+    let third = w[2];
+    let fourth = w[3];
     let next = Cursor { at: e };
     if kind == 1 {
-        return NumberTaken::Number(value::biased_word(w[0], w[1], w[2], w[3]), next);
+        return NumberTaken::Number(value::biased_word(first, second, third, fourth), next);
     }
-    if let Fit::At(n) = value::grid_word(w[0], w[1], w[2], w[3]) {
+    if let Fit::At(n) = value::grid_word(first, second, third, fourth) {
         return NumberTaken::Number(n as u64, next);
     }
     NumberTaken::NoNumber

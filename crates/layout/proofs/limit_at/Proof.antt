@@ -1,13 +1,24 @@
 -- Four bytes are read where there are so many; they are an integer of type 1, and else a count of 1024ths where it is in range.
 use borrow.Author.Needs.{needs}
 use native.Mathlib.Omega.{arith}
-use mathlib.Core.Path.{sym, _∙_}
-use denote.Ref.{now}
-use Rattle.layout.specs.Read.{textOf}
+use Prim.Native.Nat.{_+_, _-_, _≤_}
+use mathlib.Core.Path.{_≡_, sym, _∙_}
+use lib.ListN.{length, take, drop}
+use Rattle.machine.specs.Opening.{taken, bytesAt}
+use Rattle.layout.specs.Read.{textOf, behind}
 use Rattle.layout.proofs.TakenLaws.{told}
 use Rattle.layout.proofs.LimitLaws.{spanned, limit-none, limit-integer, limit-float}
 use Rattle.layout.proofs.limit_at.Statement.{statement}
 use Rattle.layout.proofs.limit_at.Tie as tie
+
+-- the four bytes stand in the sheet
+span : (c : tie.After-known-told) → (c .before .a .given .0 .0 + 4 ≡ c .before .a .given .0 .1 .0) × (c .before .a .given .0 .1 .0 ≤ length (c .before .before .before .before .before .args .s .now))
+span c = spanned (c .before .before .before .before .before .args .s .now) _ 4 (c .before .before .before .bytes-at .ensures) (c .before .a .given .1)
+
+-- and are what is read there
+bytes : (c : tie.After-known-told)
+    → bytesAt 4 (behind (c .before .before .before .before .before .args .s .now) (c .before .before .before .before .before .args .c)) ≡ taken (take (c .before .a .given .0 .1 .0 - c .before .a .given .0 .0) (drop (c .before .a .given .0 .0) (c .before .before .before .before .before .args .s .now))) (drop (c .before .a .given .0 .1 .0) (c .before .before .before .before .before .args .s .now))
+bytes c = told (textOf (c .before .before .before .before .before .args .s .now)) (c .before .a .given .1) (c .before .before .before .bytes-at .ensures .0)
 
 bytes-at-requires : tie.Need-bytes-at-requires
 bytes-at-requires c κs = search needs
@@ -19,46 +30,34 @@ enum-told : tie.Need-enum-told
 enum-told c = search needs
 
 returns : tie.Need-returns
-returns c = limit-none _ _ (told (textOf (now (c .before .before .before .before .args .s))) (c .enum-told .given .1) (c .before .before .bytes-at .ensures .0))
+returns c = limit-none _ _ (told (textOf (c .before .before .before .before .args .s .now)) (c .enum-told .given .1) (c .before .before .bytes-at .ensures .0))
 
 sub-w : tie.Need-sub-w
-sub-w c = omega (arith, spanned (now (c .before .before .before .before .before .args .s)) _ 4 (c .before .before .before .bytes-at .ensures) (c .before .a .given .1))
+sub-w c = omega (arith, span c)
 
 part-w-start : tie.Need-part-w-start
-part-w-start c = omega (arith, spanned (now (c .before .before .before .before .before .args .s)) _ 4 (c .before .before .before .bytes-at .ensures) (c .before .a .given .1))
+part-w-start c = omega (arith, span c)
 
 part-w-end : tie.Need-part-w-end
-part-w-end c = omega (arith, spanned (now (c .before .before .before .before .before .args .s)) _ 4 (c .before .before .before .bytes-at .ensures) (c .before .a .given .1))
+part-w-end c = omega (arith, span c)
 
-shared-slice-read-biased-word : tie.Need-shared-slice-read-biased-word
-shared-slice-read-biased-word c = omega (arith, spanned (now (c .before .before .before .before .before .before .before .before .args .s)) _ 4 (c .before .before .before .before .before .before .bytes-at .ensures) (c .before .before .before .before .a .given .1))
+shared-slice-read-first : tie.Need-shared-slice-read-first
+shared-slice-read-first c = omega (arith, span (c .before .before))
 
-shared-slice-read-biased-word-2 : tie.Need-shared-slice-read-biased-word-2
-shared-slice-read-biased-word-2 c = omega (arith, spanned (now (c .before .before .before .before .before .before .before .before .before .args .s)) _ 4 (c .before .before .before .before .before .before .before .bytes-at .ensures) (c .before .before .before .before .before .a .given .1))
+shared-slice-read-second : tie.Need-shared-slice-read-second
+shared-slice-read-second c = omega (arith, span (c .before .before .before))
 
-shared-slice-read-biased-word-3 : tie.Need-shared-slice-read-biased-word-3
-shared-slice-read-biased-word-3 c = omega (arith, spanned (now (c .before .before .before .before .before .before .before .before .before .before .args .s)) _ 4 (c .before .before .before .before .before .before .before .before .bytes-at .ensures) (c .before .before .before .before .before .before .a .given .1))
+shared-slice-read-third : tie.Need-shared-slice-read-third
+shared-slice-read-third c = omega (arith, span (c .before .before .before .before))
 
-shared-slice-read-biased-word-4 : tie.Need-shared-slice-read-biased-word-4
-shared-slice-read-biased-word-4 c = omega (arith, spanned (now (c .before .before .before .before .before .before .before .before .before .before .before .args .s)) _ 4 (c .before .before .before .before .before .before .before .before .before .bytes-at .ensures) (c .before .before .before .before .before .before .before .a .given .1))
+shared-slice-read-fourth : tie.Need-shared-slice-read-fourth
+shared-slice-read-fourth c = omega (arith, span (c .before .before .before .before .before))
 
 biased-word-requires : tie.Need-biased-word-requires
 biased-word-requires c κs = search needs
 
 returns-2 : tie.Need-returns-2
-returns-2 c = limit-integer _ _ _ _ (told (textOf (now (c .before .before .before .before .before .before .before .before .before .before .before .before .args .s))) (c .before .before .before .before .before .before .before .before .a .given .1) (c .before .before .before .before .before .before .before .before .before .before .bytes-at .ensures .0)) _ (c .before .before .before .before .before .if1 .taken) (c .biased-word .ensures)
-
-shared-slice-read-grid-word : tie.Need-shared-slice-read-grid-word
-shared-slice-read-grid-word c = omega (arith, spanned (now (c .before .before .before .before .before .before .before .before .args .s)) _ 4 (c .before .before .before .before .before .before .bytes-at .ensures) (c .before .before .before .before .a .given .1))
-
-shared-slice-read-grid-word-2 : tie.Need-shared-slice-read-grid-word-2
-shared-slice-read-grid-word-2 c = omega (arith, spanned (now (c .before .before .before .before .before .before .before .before .before .args .s)) _ 4 (c .before .before .before .before .before .before .before .bytes-at .ensures) (c .before .before .before .before .before .a .given .1))
-
-shared-slice-read-grid-word-3 : tie.Need-shared-slice-read-grid-word-3
-shared-slice-read-grid-word-3 c = omega (arith, spanned (now (c .before .before .before .before .before .before .before .before .before .before .args .s)) _ 4 (c .before .before .before .before .before .before .before .before .bytes-at .ensures) (c .before .before .before .before .before .before .a .given .1))
-
-shared-slice-read-grid-word-4 : tie.Need-shared-slice-read-grid-word-4
-shared-slice-read-grid-word-4 c = omega (arith, spanned (now (c .before .before .before .before .before .before .before .before .before .before .before .args .s)) _ 4 (c .before .before .before .before .before .before .before .before .before .bytes-at .ensures) (c .before .before .before .before .before .before .before .a .given .1))
+returns-2 c = limit-integer _ _ _ _ (bytes (c .before .before .before .before .before .before .before)) _ (c .before .if1 .taken) (c .biased-word .ensures)
 
 grid-word-requires : tie.Need-grid-word-requires
 grid-word-requires c κs = search needs
@@ -66,17 +65,17 @@ grid-word-requires c κs = search needs
 enum-known-n : tie.Need-enum-known-n
 enum-known-n c = search needs
 
-cast-t32 : tie.Need-cast-t32
-cast-t32 c = search needs
+cast-t25 : tie.Need-cast-t25
+cast-t25 c = search needs
 
 returns-3 : tie.Need-returns-3
-returns-3 c = limit-float _ _ _ _ (told (textOf (now (c .before .before .before .before .before .before .before .before .before .before .before .before .before .before .before .args .s))) (c .before .before .before .before .before .before .before .before .before .before .before .a .given .1) (c .before .before .before .before .before .before .before .before .before .before .before .before .before .bytes-at .ensures .0)) _ (c .before .before .before .before .before .before .before .before .if1 .left) (sym (c .before .n .given .1) ∙ c .before .before .before .grid-word .ensures)
+returns-3 c = limit-float _ _ _ _ (bytes (c .before .before .before .before .before .before .before .before .before .before)) _ (c .before .before .before .before .if1 .left) (sym (c .before .n .given .1) ∙ c .before .before .before .grid-word .ensures)
 
 enum-told-2 : tie.Need-enum-told-2
 enum-told-2 c = search needs
 
 returns-4 : tie.Need-returns-4
-returns-4 c = limit-float _ _ _ _ (told (textOf (now (c .before .before .before .before .before .before .before .before .before .before .before .before .before .before .args .s))) (c .before .before .before .before .before .before .before .before .before .before .a .given .1) (c .before .before .before .before .before .before .before .before .before .before .before .before .bytes-at .ensures .0)) _ (c .before .before .before .before .before .before .before .if1 .left) (sym (c .enum-told2 .given .1) ∙ c .before .before .grid-word .ensures)
+returns-4 c = limit-float _ _ _ _ (bytes (c .before .before .before .before .before .before .before .before .before)) _ (c .before .before .before .if1 .left) (sym (c .enum-told2 .given .1) ∙ c .before .before .grid-word .ensures)
 
 pub limit-at-spec : {M : Type 1} → statement M
 limit-at-spec =
@@ -89,19 +88,15 @@ limit-at-spec =
     sub-w
     part-w-start
     part-w-end
-    shared-slice-read-biased-word
-    shared-slice-read-biased-word-2
-    shared-slice-read-biased-word-3
-    shared-slice-read-biased-word-4
+    shared-slice-read-first
+    shared-slice-read-second
+    shared-slice-read-third
+    shared-slice-read-fourth
     biased-word-requires
     returns-2
-    shared-slice-read-grid-word
-    shared-slice-read-grid-word-2
-    shared-slice-read-grid-word-3
-    shared-slice-read-grid-word-4
     grid-word-requires
     enum-known-n
-    cast-t32
+    cast-t25
     returns-3
     enum-told-2
     returns-4)
