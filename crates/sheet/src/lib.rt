@@ -17,6 +17,7 @@ ghost use Rattle.machine.specs.Places.{allBelow};
 ghost use Rattle.machine.specs.State as states;
 ghost use Rattle.machine.specs.Opening as opening;
 ghost use Rattle.machine.specs.Range as ranges;
+ghost use Rattle.sheet.specs.Parts.{readingsOk, clientsOk, noneConnected};
 
 // What stands at a place without a sensor.
 fn no_stored() -> Stored
@@ -165,17 +166,16 @@ fn stored_ok(there: bool, clock: u64, sensor: Sensor, r: Stored) -> bool
     none & (r.time == 0)
 }
 
-fn readings_ok(s: State) -> bool
-    ensures { λ r. ⌜ r ≡ allBelow (ranges.storedOkAt s) 32 ⌝ }
+fn readings_ok(sheet: Sheet, clock: u64, readings: [Stored; 32]) -> bool
+    ensures { λ r. ⌜ r ≡ readingsOk sheet clock readings ⌝ }
 {
-    let sheet = s.sheet;
     let count = sheet.count as usize;
     let mut ok = true;
     let mut j: usize = 0;
     while j < 32 {
         let sensor = sheet.sensors[j];
-        let stored = s.readings[j];
-        ok = ok & stored_ok(j < count, s.clock, sensor, stored);
+        let stored = readings[j];
+        ok = ok & stored_ok(j < count, clock, sensor, stored);
         j += 1;
     }
     ok
@@ -192,26 +192,26 @@ fn client_ok(client: Client) -> bool
     rules::text_ok(&address, client.address_len, 0, 0, Charset::Graphic)
 }
 
-fn clients_ok(s: State) -> bool
-    ensures { λ r. ⌜ r ≡ allBelow (ranges.clientOkAt s) 8 ⌝ }
+fn clients_ok(clients: [Client; 8]) -> bool
+    ensures { λ r. ⌜ r ≡ clientsOk clients ⌝ }
 {
     let mut ok = true;
     let mut c: usize = 0;
     while c < 8 {
-        let client = s.clients[c];
+        let client = clients[c];
         ok = ok & client_ok(client);
         c += 1;
     }
     ok
 }
 
-fn no_clients(s: State) -> bool
-    ensures { λ r. ⌜ r ≡ ranges.noClients s ⌝ }
+fn none_connected(clients: [Client; 8]) -> bool
+    ensures { λ r. ⌜ r ≡ noneConnected clients ⌝ }
 {
     let mut ok = true;
     let mut c: usize = 0;
     while c < 8 {
-        let client = s.clients[c];
+        let client = clients[c];
         ok = ok & !client.connected;
         c += 1;
     }
@@ -311,26 +311,22 @@ fn pairs_ok(s: State) -> bool
     ok
 }
 
-// What, in range, only the blank state has.
-fn is_blank(s: State) -> bool
-    ensures { λ r. ⌜ r ≡ ranges.isBlank s ⌝ }
-{
-    let sheet = s.sheet;
-    let titles = rules::titles_none(sheet);
-    let alone = no_clients(s);
-    titles & ((sheet.count == 0) & (alone & (s.halted & ((s.level == 0) & (s.clock == 0)))))
-}
-
 // Whether every field of a state is within what document 01 allows: where not, a call is declined with number 1.
 pub fn in_range(s: State) -> bool
     ensures { λ r. ⌜ r ≡ ranges.inRange s ⌝ }
 {
     let sheet = s.sheet;
+    let stored = s.readings;
+    let connections = s.clients;
     let titles = rules::titles_ok(sheet);
-    let blank = is_blank(s);
+    let untitled = rules::titles_none(sheet);
     let sensors = rules::sensors_ok(sheet);
-    let readings = readings_ok(s);
-    let clients = clients_ok(s);
+    let alone = none_connected(connections);
+    // what, in range, only the blank state has
+    let blank = untitled
+        & ((sheet.count == 0) & (alone & (s.halted & ((s.level == 0) & (s.clock == 0)))));
+    let readings = readings_ok(sheet, s.clock, stored);
+    let clients = clients_ok(connections);
     let pairs = pairs_ok(s);
     (titles | blank)
         & (sensors

@@ -4,16 +4,19 @@ use mathlib.Core.Path.{_≡_, refl}
 use native.Mathlib.Numerals.{add-one}
 use native.Mathlib.Omega.{arith}
 use borrow.Author.Needs.{needs}
+use lib.ListN.{getD}
 use Rattle.machine.specs.Places.{allBelow}
-use Rattle.machine.specs.Range.{clientOkAt}
+use Rattle.machine.specs.State.{noClient}
+use Rattle.machine.specs.Range.{clientOk}
+use Rattle.sheet.specs.Parts.{clientsOk}
 use Rattle.sheet.proofs.clients_ok.Statement.{statement}
 use Rattle.sheet.proofs.clients_ok.Tie as tie
 
 abbrev Inv-loop : tie.InvT-loop
-Inv-loop s ok₀ c₀ ok c = (c ≤ 8) × (ok ≡ allBelow (clientOkAt s) c)
+Inv-loop clients ok₀ c₀ ok c = (c ≤ 8) × (ok ≡ allBelow (λ c. clientOk (getD clients c noClient)) c)
 
 abbrev μ-loop : tie.MeasureT-loop
-μ-loop s ok₀ c₀ ok c = 8 - c
+μ-loop clients ok₀ c₀ ok c = 8 - c
 
 loop-holds : tie.Need-loop-holds Inv-loop μ-loop
 unfolding allBelow
@@ -22,8 +25,8 @@ loop-holds c = (omega arith, refl)
 mul-client : tie.Need-mul-client Inv-loop μ-loop
 mul-client c = search needs
 
-element-copy-out-client : tie.Need-element-copy-out-client Inv-loop μ-loop
-element-copy-out-client c = search needs
+array-copy-out-client : tie.Need-array-copy-out-client Inv-loop μ-loop
+array-copy-out-client c = search needs
 
 client-ok-requires : tie.Need-client-ok-requires Inv-loop μ-loop
 client-ok-requires c κs = search needs
@@ -39,6 +42,7 @@ unfolding allBelow
 loop-again c = (omega arith, rw (add-one, c .before .before .before .loop .inv .1, c .client-ok .ensures))
 
 returns : tie.Need-returns Inv-loop μ-loop
+unfolding clientsOk
 returns c = let e : c .before .loop .c ≡ 8 = omega arith in rw (c .before .loop .inv .1, e)
 
 pub clients-ok-spec : {M : Type 1} → statement M
@@ -49,7 +53,7 @@ clients-ok-spec =
     μ-loop
     loop-holds
     mul-client
-    element-copy-out-client
+    array-copy-out-client
     client-ok-requires
     add-c
     loop-less

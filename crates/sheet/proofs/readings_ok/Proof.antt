@@ -5,15 +5,15 @@ use native.Mathlib.Numerals.{add-one}
 use native.Mathlib.Omega.{arith}
 use borrow.Author.Needs.{needs}
 use Rattle.machine.specs.Places.{allBelow}
-use Rattle.machine.specs.Range.{storedOkAt}
+use Rattle.sheet.specs.Parts.{readingOk, readingsOk}
 use Rattle.sheet.proofs.readings_ok.Statement.{statement}
 use Rattle.sheet.proofs.readings_ok.Tie as tie
 
 abbrev Inv-loop : tie.InvT-loop
-Inv-loop s sheet count ok₀ j₀ ok j = (j ≤ 32) × (ok ≡ allBelow (storedOkAt s) j)
+Inv-loop clock sheet readings count ok₀ j₀ ok j = (j ≤ 32) × (ok ≡ allBelow (readingOk sheet clock readings) j)
 
 abbrev μ-loop : tie.MeasureT-loop
-μ-loop s sheet count ok₀ j₀ ok j = 32 - j
+μ-loop clock sheet readings count ok₀ j₀ ok j = 32 - j
 
 cast-count : tie.Need-cast-count Inv-loop μ-loop
 cast-count c = search needs
@@ -31,8 +31,8 @@ element-copy-out-sensor c = search needs
 mul-stored : tie.Need-mul-stored Inv-loop μ-loop
 mul-stored c = search needs
 
-element-copy-out-stored : tie.Need-element-copy-out-stored Inv-loop μ-loop
-element-copy-out-stored c = search needs
+array-copy-out-stored : tie.Need-array-copy-out-stored Inv-loop μ-loop
+array-copy-out-stored c = search needs
 
 stored-ok-requires : tie.Need-stored-ok-requires Inv-loop μ-loop
 stored-ok-requires c κs = search needs
@@ -44,10 +44,11 @@ loop-less : tie.Need-loop-less Inv-loop μ-loop
 loop-less c = search needs
 
 loop-again : tie.Need-loop-again Inv-loop μ-loop
-unfolding allBelow storedOkAt
+unfolding allBelow readingOk
 loop-again c = (omega arith, rw (add-one, c .before .before .before .before .loop .inv .1, c .stored-ok .ensures))
 
 returns : tie.Need-returns Inv-loop μ-loop
+unfolding readingsOk
 returns c = let e : c .before .loop .j ≡ 32 = omega arith in rw (c .before .loop .inv .1, e)
 
 pub readings-ok-spec : {M : Type 1} → statement M
@@ -61,7 +62,7 @@ readings-ok-spec =
     mul-sensor
     element-copy-out-sensor
     mul-stored
-    element-copy-out-stored
+    array-copy-out-stored
     stored-ok-requires
     add-j
     loop-less

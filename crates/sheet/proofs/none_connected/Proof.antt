@@ -5,17 +5,18 @@ use native.Mathlib.Numerals.{add-one}
 use native.Mathlib.Omega.{arith}
 use borrow.Author.Needs.{needs}
 use mathlib.Core.Bool.{not}
+use lib.ListN.{getD}
 use Rattle.machine.specs.Places.{allBelow}
-use Rattle.machine.specs.State.{connected}
-use Rattle.machine.specs.Range.{noClients}
-use Rattle.sheet.proofs.no_clients.Statement.{statement}
-use Rattle.sheet.proofs.no_clients.Tie as tie
+use Rattle.machine.specs.State.{noClient}
+use Rattle.sheet.specs.Parts.{noneConnected}
+use Rattle.sheet.proofs.none_connected.Statement.{statement}
+use Rattle.sheet.proofs.none_connected.Tie as tie
 
 abbrev Inv-loop : tie.InvT-loop
-Inv-loop s ok₀ c₀ ok c = (c ≤ 8) × (ok ≡ allBelow (λ c. not (connected s c)) c)
+Inv-loop clients ok₀ c₀ ok c = (c ≤ 8) × (ok ≡ allBelow (λ c. not (getD clients c noClient .connected)) c)
 
 abbrev μ-loop : tie.MeasureT-loop
-μ-loop s ok₀ c₀ ok c = 8 - c
+μ-loop clients ok₀ c₀ ok c = 8 - c
 
 loop-holds : tie.Need-loop-holds Inv-loop μ-loop
 unfolding allBelow
@@ -24,8 +25,8 @@ loop-holds c = (omega arith, refl)
 mul-client : tie.Need-mul-client Inv-loop μ-loop
 mul-client c = search needs
 
-element-copy-out-client : tie.Need-element-copy-out-client Inv-loop μ-loop
-element-copy-out-client c = search needs
+array-copy-out-client : tie.Need-array-copy-out-client Inv-loop μ-loop
+array-copy-out-client c = search needs
 
 add-c : tie.Need-add-c Inv-loop μ-loop
 add-c c = search needs
@@ -38,18 +39,18 @@ unfolding allBelow
 loop-again c = (omega arith, rw (add-one, c .before .before .before .loop .inv .1))
 
 returns : tie.Need-returns Inv-loop μ-loop
-unfolding noClients
+unfolding noneConnected
 returns c = let e : c .before .loop .c ≡ 8 = omega arith in rw (c .before .loop .inv .1, e)
 
-pub no-clients-spec : {M : Type 1} → statement M
-no-clients-spec =
+pub none-connected-spec : {M : Type 1} → statement M
+none-connected-spec =
     tie.close
     (tie.spec
     Inv-loop
     μ-loop
     loop-holds
     mul-client
-    element-copy-out-client
+    array-copy-out-client
     add-c
     loop-less
     loop-again
