@@ -2,6 +2,7 @@ pub mod At
 pub mod UnescapeLaws
 pub mod IdLaws
 pub mod SameLaws
+pub mod PassLaws
 pub mod WordLaws
 pub mod HeadLaws
 pub mod CopyLaws

@@ -13,13 +13,6 @@ use Rattle.line.specs.Line.{unescape}
 use Rattle.line.specs.Answer.{begins}
 use Rattle.line.proofs.At.{at}
 
-module _ (a b : List ℕ) (i : ℕ) (h : i < length a) (k : i < length b) where
-  pub unlike : (getD a i 0 ≡ getD b i 0 → ⊥) → same (drop i a) (drop i b) ≡ false
-  unlike ne = rw (at a i h, at b i k, ne-eqb (getD a i 0) (getD b i 0) ne)
-
-  pub like : getD a i 0 ≡ getD b i 0 → same (drop i a) (drop i b) ≡ same (drop (i + 1) a) (drop (i + 1) b)
-  like e = rw (at a i h, at b i k, eq-eqb (getD a i 0) (getD b i 0) e)
-
 pub same-over : (a b : List ℕ) (i : ℕ) → length a ≤ i → length b ≤ i → same (drop i a) (drop i b) ≡ true
 same-over a b i h k = rw (drop-of-length-le a h, drop-of-length-le b k)
 

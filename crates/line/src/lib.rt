@@ -294,21 +294,20 @@ fn id_of(t: &[u8]) -> Identifier
     id_from(&t[1..])
 }
 
-// Whether two texts are the same.
+// Whether two texts are the same. All bytes are compared: texts of a known length are then compared in a few steps.
 pub fn same(a: &[u8], b: &[u8]) -> bool
     ensures { λ r. ⌜ r ≡ texts.same (now (a .entry)) (now (b .entry)) ⌝ }
 {
     if a.len() != b.len() {
         return false;
     }
+    let mut ok = true;
     let mut i = 0;
     while i < a.len() {
-        if a[i] != b[i] {
-            return false;
-        }
+        ok = ok & (a[i] == b[i]);
         i += 1;
     }
-    true
+    ok
 }
 
 // The first word at or after `from`; where there is none, an empty one.

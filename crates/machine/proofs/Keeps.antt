@@ -35,7 +35,7 @@ unfolding isBlank
 titled s r h = or-true (titlesOk (s .sheet) ≡ true) (titlesOk (s .sheet)) (isBlank s) (r .titles-in) (λ t. t)
     (λ b. let x = and-true (titlesNone (s .sheet)) _ b in
     let y = and-true (eqb (s .sheet .count) 0) _ (x .1) in
-    let z = and-true (noClients s) _ (y .1) in
+    let z = and-true (noClients (s .clients)) _ (y .1) in
     let w = and-true (s .halted) (eqb (s .level) 0 && eqb (s .clock) 0) (z .1) in
     absurd (true≢false (sym (w .0) ∙ h)))
 

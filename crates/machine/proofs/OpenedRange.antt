@@ -41,7 +41,7 @@ blank-sensors : sensorsOk blankSheet ≡ true
 unfolding sensorsOk sensorNone textOk limitsNone choiceNone distinct allBelow
 blank-sensors = refl
 
-blank-stored : allBelow (storedOkAt blank) 32 ≡ true
+blank-stored : allBelow (storedOkAt (blank .sheet) (blank .clock) (blank .readings)) 32 ≡ true
 unfolding storedOkAt storedNone allBelow
 blank-stored = refl
 
@@ -52,7 +52,7 @@ blank-range = record {
   sensors-in = blank-sensors;
   clock-in = omega arith;
   level-in = omega arith;
-  stored-in = λ j h. below-at (storedOkAt blank) 32 j blank-stored h;
+  stored-in = λ j h. below-at (storedOkAt (blank .sheet) (blank .clock) (blank .readings)) 32 j blank-stored h;
   client-in = λ c h. none-connected-in c;
   pair-in = λ p h. no-pair-in blankSheet 0 (connected blank (p / 32)) p;
 }
@@ -60,7 +60,7 @@ blank-range = record {
 -- A fresh device.
 
 module _ (sheet : Sheet) where
-  fresh-stored : (j : ℕ) → j < 32 → storedOkAt (fresh sheet) j ≡ true
+  fresh-stored : (j : ℕ) → j < 32 → storedOkAt sheet 0 (fresh sheet .readings) j ≡ true
   unfolding storedOkAt storedOk storedNone freshReadings
   fresh-stored j h = rw (getD-tabulate _ 32 j noStored h) (go (ltb j (sheet .count)))
     where

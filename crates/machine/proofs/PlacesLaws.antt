@@ -9,7 +9,7 @@ use lib.ListN.{length, getD, replicate, length-append, List·getD-append}
 use lib.Seq.{getD-append-seam}
 use borrow.Author.Tests.{ltb-true, ltb-false, eqb-true}
 use Rattle.machine.specs.Places.{tabulate, gather, oneIf, any, allBelow, firstBelow, has, Each}
-use Rattle.machine.proofs.TestLaws.{and-true, and-in, or-false, or-true, or-in, eqb-refl}
+use Rattle.machine.proofs.TestLaws.{and-true, and-in, or-false, or-true, or-in, test-same, eqb-refl}
 use Rattle.output.specs.Text.{all}
 
 module _ {A : Type 0} (f : ℕ → A) where
@@ -83,6 +83,12 @@ pub below-of : (f : ℕ → Bool) (n : ℕ) → ((p : ℕ) → p < n → f p ≡
 unfolding allBelow
 below-of f zero h = refl
 below-of f (suc n) h = and-in (allBelow f n) (f n) (below-of f n (λ p k. h p (omega arith))) (h n (omega arith))
+
+-- tests that are the same at each place
+pub below-same : (f g : ℕ → Bool) (n : ℕ) → ((p : ℕ) → p < n → f p ≡ g p) → allBelow f n ≡ allBelow g n
+below-same f g n h = test-same (allBelow f n) (allBelow g n)
+    (λ k. below-of g n (λ p l. sym (h p l) ∙ below-at f n p k l))
+    (λ k. below-of f n (λ p l. h p l ∙ below-at g n p k l))
 
 -- the first place where a test holds: it holds there, and nowhere before
 pub first-most : (f : ℕ → Bool) (n : ℕ) → firstBelow f n ≤ n

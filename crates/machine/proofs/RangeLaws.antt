@@ -21,7 +21,7 @@ pub record InRange (s : State) : Type 0 where
   pub sensors-in : sensorsOk (s .sheet) ≡ true
   pub clock-in : s .clock ≤ 9999999999999
   pub level-in : s .level ≤ 7
-  pub stored-in : (j : ℕ) → j < 32 → storedOkAt s j ≡ true
+  pub stored-in : (j : ℕ) → j < 32 → storedOkAt (s .sheet) (s .clock) (s .readings) j ≡ true
   pub client-in : (c : ℕ) → c < 8 → clientOk (clientOf s c) ≡ true
   pub pair-in : (p : ℕ) → p < 256 → pairOkAt s p ≡ true
 
@@ -32,15 +32,15 @@ range-out s h =
     let b = and-true (sensorsOk (s .sheet)) _ (a .1) in
     let c = and-true (inTime (s .clock)) _ (b .1) in
     let d = and-true (leb (s .level) 7) _ (c .1) in
-    let e = and-true (allBelow (storedOkAt s) 32) _ (d .1) in
-    let f = and-true (allBelow (clientOkAt s) 8) (allBelow (pairOkAt s) 256) (e .1) in
+    let e = and-true (allBelow (storedOkAt (s .sheet) (s .clock) (s .readings)) 32) _ (d .1) in
+    let f = and-true (allBelow (clientOkAt (s .clients)) 8) (allBelow (pairOkAt s) 256) (e .1) in
     record {
       titles-in = a .0;
       sensors-in = b .0;
       clock-in = leb-true (s .clock) 9999999999999 (c .0);
       level-in = leb-true (s .level) 7 (d .0);
-      stored-in = λ j k. below-at (storedOkAt s) 32 j (e .0) k;
-      client-in = λ c k. below-at (clientOkAt s) 8 c (f .0) k;
+      stored-in = λ j k. below-at (storedOkAt (s .sheet) (s .clock) (s .readings)) 32 j (e .0) k;
+      client-in = λ c k. below-at (clientOkAt (s .clients)) 8 c (f .0) k;
       pair-in = λ p k. below-at (pairOkAt s) 256 p (f .1) k;
     }
 
@@ -51,8 +51,8 @@ range-of s r =
     (and-in (sensorsOk (s .sheet)) _ (r .sensors-in)
     (and-in (inTime (s .clock)) _ (le-leb (s .clock) 9999999999999 (r .clock-in))
     (and-in (leb (s .level) 7) _ (le-leb (s .level) 7 (r .level-in))
-    (and-in (allBelow (storedOkAt s) 32) _ (below-of (storedOkAt s) 32 (r .stored-in))
-    (and-in (allBelow (clientOkAt s) 8) (allBelow (pairOkAt s) 256) (below-of (clientOkAt s) 8 (r .client-in)) (below-of (pairOkAt s) 256 (r .pair-in)))))))
+    (and-in (allBelow (storedOkAt (s .sheet) (s .clock) (s .readings)) 32) _ (below-of (storedOkAt (s .sheet) (s .clock) (s .readings)) 32 (r .stored-in))
+    (and-in (allBelow (clientOkAt (s .clients)) 8) (allBelow (pairOkAt s) 256) (below-of (clientOkAt (s .clients)) 8 (r .client-in)) (below-of (pairOkAt s) 256 (r .pair-in)))))))
 
 -- a sensor's reading is one that the sensor can have, at a time that is not after the clock
 pub stored-is : (s : State) → InRange s → (j : ℕ) → j < s .sheet .count → j < 32

@@ -2,7 +2,7 @@
 use Prim.Native.Nat.{ℕ, _<_}
 use native.Mathlib.Omega.{arith}
 use mathlib.Core.Path.{_≡_, refl, sym}
-use mathlib.Core.Bool.{Bool, true, false, cond, _&&_, _||_, true≢false}
+use mathlib.Core.Bool.{Bool, true, false, cond, not, _&&_, _||_, true≢false, or-false as or-no}
 use lib.Dec.{eqb}
 use borrow.Author.Tests.{eqb-true, eqb-false, eq-eqb, ne-eqb}
 
@@ -28,6 +28,23 @@ or-true P false b h f g = g h
 pub or-in : (a b : Bool) → b ≡ true → (a || b) ≡ true
 or-in true b h = refl
 or-in false b h = h
+
+-- tests that hold one where the other does
+pub test-same : (a b : Bool) → (a ≡ true → b ≡ true) → (b ≡ true → a ≡ true) → a ≡ b
+test-same true b h k = sym (h refl)
+test-same false true h k = k refl
+test-same false false h k = refl
+
+-- a test that stands behind two others may be put for another where those hold
+pub and-then : (a b c d : Bool) → (a ≡ true → b ≡ true → c ≡ d) → (a && (b && c)) ≡ (a && (b && d))
+and-then true true c d h = h refl refl
+and-then true false c d h = refl
+and-then false b c d h = refl
+
+-- the two ways of a choice
+pub choose : (t a b : Bool) → ((t && a) || (not t && b)) ≡ cond t a b
+choose true a b = or-no a
+choose false a b = refl
 
 module _ {A : Type 0} where
   pub cond-either : (P : A → Type 0) (b : Bool) (x y : A) → P x → P y → P (cond b x y)

@@ -2,11 +2,14 @@
 -- report". A field that document 01's state does not have holds what the blank state has there, so that each state of document 01 is one State.
 use Prim.Native.Nat.{ℕ, _/_, _%_}
 use mathlib.Core.Bool.{Bool, true, false, cond, not, _&&_, _||_}
+use mathlib.Core.List.{List}
 use lib.Dec.{eqb, leb, ltb}
+use lib.ListN.{getD}
 use Rattle.output.specs.Read.{inTime, inDifference, inWholeDifference}
 use Rattle.value.specs.declared.Sample.{Sample}
 use Rattle.value.specs.Reading.{sampleFits}
 use Rattle.machine.specs.declared.Sensor.{Sensor}
+use Rattle.machine.specs.declared.Sheet.{Sheet}
 use Rattle.machine.specs.declared.Strategy.{Strategy}
 use Rattle.machine.specs.declared.Strategy.the-variants.{None, Auto, Period, Event, Differential, EventRate, DifferentialRate}
 use Rattle.machine.specs.declared.Subscription.{Subscription}
@@ -15,7 +18,7 @@ use Rattle.machine.specs.declared.Client.{Client}
 use Rattle.machine.specs.declared.State.{State}
 use Rattle.machine.specs.Places.{allBelow}
 use Rattle.machine.specs.Sheet.{sensorOf, graphic, textOk, sensorsOk, titlesOk, titlesNone}
-use Rattle.machine.specs.State.{storedOf, clientOf, connected, pairAt}
+use Rattle.machine.specs.State.{noStored, noClient, connected, pairAt}
 
 -- a sample that a sensor can have
 abbrev pub sampleOk : Sensor → Sample → Bool
@@ -77,9 +80,9 @@ pairNone p = not (p .reported) && (isNone (p .strategy) && (sampleNone (p .sampl
 unfoldable pub pairReported : ℕ → Sensor → Subscription → Bool
 pairReported clock n p = p .reported && (strategyOk (n .kind) (p .strategy) && (sampleOk n (p .sample) && leb (p .time) clock))
 
--- the reading at a place
-unfoldable pub storedOkAt : State → ℕ → Bool
-storedOkAt s j = cond (ltb j (s .sheet .count)) (storedOk (s .clock) (sensorOf (s .sheet) j) (storedOf s j)) (storedNone (storedOf s j))
+-- the reading at a place of the sheet
+unfoldable pub storedOkAt : Sheet → ℕ → List Stored → ℕ → Bool
+storedOkAt sheet clock rs j = cond (ltb j (sheet .count)) (storedOk clock (sensorOf sheet j) (getD rs j noStored)) (storedNone (getD rs j noStored))
 
 -- the subscription at a place: only that of a connected client to a sensor on the sheet can have a report
 unfoldable pub pairOkAt : State → ℕ → Bool
@@ -88,16 +91,16 @@ pairOkAt s p =
     || (connected s (p / 32) && (ltb (p % 32) (s .sheet .count) && pairReported (s .clock) (sensorOf (s .sheet) (p % 32)) (pairAt s p)))
 
 -- the client of a number
-abbrev pub clientOkAt : State → ℕ → Bool
-clientOkAt s c = clientOk (clientOf s c)
+abbrev pub clientOkAt : List Client → ℕ → Bool
+clientOkAt ks c = clientOk (getD ks c noClient)
 
 -- no client is connected
-unfoldable pub noClients : State → Bool
-noClients s = allBelow (λ c. not (connected s c)) 8
+unfoldable pub noClients : List Client → Bool
+noClients ks = allBelow (λ c. not (getD ks c noClient .connected)) 8
 
 -- what, in range, only the blank state has: empty texts, with no sensors, no clients, halted, level off and the clock at 0
 unfoldable pub isBlank : State → Bool
-isBlank s = titlesNone (s .sheet) && (eqb (s .sheet .count) 0 && (noClients s && (s .halted && (eqb (s .level) 0 && eqb (s .clock) 0))))
+isBlank s = titlesNone (s .sheet) && (eqb (s .sheet .count) 0 && (noClients (s .clients) && (s .halted && (eqb (s .level) 0 && eqb (s .clock) 0))))
 
 -- every field within what document 01 allows
 unfoldable pub inRange : State → Bool
@@ -106,6 +109,6 @@ inRange s =
     && (sensorsOk (s .sheet)
     && (inTime (s .clock)
     && (leb (s .level) 7
-    && (allBelow (storedOkAt s) 32
-    && (allBelow (clientOkAt s) 8
+    && (allBelow (storedOkAt (s .sheet) (s .clock) (s .readings)) 32
+    && (allBelow (clientOkAt (s .clients)) 8
     && allBelow (pairOkAt s) 256)))))

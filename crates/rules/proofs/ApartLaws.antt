@@ -2,7 +2,7 @@
 use Prim.Native.Nat.{ℕ, _+_, _*_, _/_, _%_, _<_, _≤_}
 use native.Mathlib.Omega.{arith}
 use mathlib.Core.Path.{_≡_, refl, sym, ap, _∙_}
-use mathlib.Core.Bool.{Bool, true, false, cond, not, _&&_, _||_, or-false}
+use mathlib.Core.Bool.{Bool, true, false, not, _||_}
 use mathlib.Core.List.{List, [], _∷_}
 use lib.Arith.{digits-lt, digits-div, digits-mod}
 use lib.Dec.{eqb, leb}
@@ -13,31 +13,9 @@ use Rattle.output.specs.Text.{same, all}
 use Rattle.output.proofs.TextLaws.{same-refl, same-true}
 use Rattle.machine.specs.Places.{allBelow}
 use Rattle.machine.specs.Sheet.{zeroByte, distinct}
-use Rattle.machine.proofs.TestLaws.{and-true, and-in}
-use Rattle.machine.proofs.PlacesLaws.{below-at, below-of}
+use Rattle.machine.proofs.TestLaws.{and-true, and-in, test-same}
+use Rattle.machine.proofs.PlacesLaws.{below-at, below-of, below-same}
 use Rattle.rules.specs.Apart.{alike, apartAt}
-
--- tests that hold one where the other does
-test-same : (a b : Bool) → (a ≡ true → b ≡ true) → (b ≡ true → a ≡ true) → a ≡ b
-test-same true b h k = sym (h refl)
-test-same false true h k = k refl
-test-same false false h k = refl
-
--- a test that stands behind two others may be put for another where those hold
-pub and-then : (a b c d : Bool) → (a ≡ true → b ≡ true → c ≡ d) → (a && (b && c)) ≡ (a && (b && d))
-and-then true true c d h = h refl refl
-and-then true false c d h = refl
-and-then false b c d h = refl
-
--- the two ways of a choice
-pub choose : (t a b : Bool) → ((t && a) || (not t && b)) ≡ cond t a b
-choose true a b = or-false a
-choose false a b = refl
-
-pub below-same : (f g : ℕ → Bool) (n : ℕ) → ((p : ℕ) → p < n → f p ≡ g p) → allBelow f n ≡ allBelow g n
-below-same f g n h = test-same (allBelow f n) (allBelow g n)
-    (λ k. below-of g n (λ p l. sym (h p l) ∙ below-at f n p k l))
-    (λ k. below-of f n (λ p l. h p l ∙ below-at g n p k l))
 
 -- places i < j < count, as pairs of a square
 module _ (width count : ℕ) (like : ℕ → ℕ → Bool) where

@@ -11,11 +11,11 @@ use Rattle.machine.specs.declared.Sensor.{Sensor}
 use Rattle.machine.specs.declared.Sheet.{Sheet}
 use Rattle.machine.specs.Places.{allBelow}
 use Rattle.machine.specs.Sheet.{noChoice, sensorOf, nameOf, optionOf, textOk, nameByte, choiceNone, choiceOk, distinct, optionsOk, sensorOk, sensorNone, sensorOkAt, sensorsOk}
-use Rattle.machine.proofs.TestLaws.{and-true, cond-true}
+use Rattle.machine.proofs.TestLaws.{and-true, cond-true, and-then}
 use Rattle.machine.proofs.PlacesLaws.{below-at}
 use Rattle.machine.proofs.SheetLaws.{text-out, sensor-out}
 use Rattle.rules.specs.Apart.{choicesApart, namesApart}
-use Rattle.rules.proofs.ApartLaws.{Padded, and-then, apart-distinct}
+use Rattle.rules.proofs.ApartLaws.{Padded, apart-distinct}
 
 -- what is there below a count
 there : (i n : ℕ) (a b : Bool) → i < n → cond (ltb i n) a b ≡ true → a ≡ true

@@ -12,7 +12,7 @@ use Rattle.machine.specs.Places.{allBelow}
 use Rattle.machine.proofs.TestLaws.{cond-false}
 use Rattle.machine.specs.declared.Choice.{Choice}
 use Rattle.machine.specs.Sheet.{textOk, noChoice, choiceNone, choiceOk, zeroByte}
-use Rattle.rules.proofs.ApartLaws.{below-same}
+use Rattle.machine.proofs.PlacesLaws.{below-same}
 
 pub empty-text : (is : ℕ → Bool) (len : ℕ) (bytes : List ℕ) → textOk 0 0 is len bytes ≡ (eqb len 0 && all zeroByte bytes)
 unfolding textOk

@@ -1,4 +1,4 @@
-pub mod PassLaws
+pub mod FillLaws
 pub mod EmptyLaws
 pub mod ElementLaws
 pub mod ApartLaws

@@ -7,7 +7,6 @@ use value::Limits;
 ghost use mathlib.Core.Path.{_≡_};
 ghost use mathlib.Core.Bool.{cond};
 ghost use lib.ListN.{getD};
-ghost use Rattle.output.specs.Text as texts;
 ghost use Rattle.machine.specs.Places.{allBelow};
 ghost use Rattle.machine.specs.Sheet as sheets;
 ghost use Rattle.rules.specs.Texts.{inCharset};
@@ -53,27 +52,11 @@ pub fn text_ok(bytes: &[u8], len: u8, least: u8, most: u8, charset: Charset) -> 
     (least <= len) & ((len <= most) & ok)
 }
 
-// Whether two arrays hold the same bytes; all of them are compared.
-fn same_bytes(a: &[u8], b: &[u8]) -> bool
-    ensures { λ r. ⌜ r ≡ texts.same (now (a .entry)) (now (b .entry)) ⌝ }
-{
-    if a.len() != b.len() {
-        return false;
-    }
-    let mut ok = true;
-    let mut i = 0;
-    while i < a.len() {
-        ok = ok & (a[i] == b[i]);
-        i += 1;
-    }
-    ok
-}
-
 // Whether two texts have the same length, and their arrays the same bytes.
 fn alike_texts(a_len: u8, a: &[u8], b_len: u8, b: &[u8]) -> bool
     ensures { λ r. ⌜ r ≡ alike «a_len» (now (a .entry)) «b_len» (now (b .entry)) ⌝ }
 {
-    let same = same_bytes(a, b);
+    let same = line::same(a, b);
     (a_len == b_len) & same
 }
 

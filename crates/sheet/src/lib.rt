@@ -17,7 +17,6 @@ ghost use Rattle.machine.specs.Places.{allBelow};
 ghost use Rattle.machine.specs.State as states;
 ghost use Rattle.machine.specs.Opening as opening;
 ghost use Rattle.machine.specs.Range as ranges;
-ghost use Rattle.sheet.specs.Parts.{readingsOk, clientsOk, noneConnected};
 
 // What stands at a place without a sensor.
 fn no_stored() -> Stored
@@ -167,7 +166,7 @@ fn stored_ok(there: bool, clock: u64, sensor: Sensor, r: Stored) -> bool
 }
 
 fn readings_ok(sheet: Sheet, clock: u64, readings: [Stored; 32]) -> bool
-    ensures { λ r. ⌜ r ≡ readingsOk sheet clock readings ⌝ }
+    ensures { λ r. ⌜ r ≡ allBelow (ranges.storedOkAt sheet clock readings) 32 ⌝ }
 {
     let count = sheet.count as usize;
     let mut ok = true;
@@ -193,7 +192,7 @@ fn client_ok(client: Client) -> bool
 }
 
 fn clients_ok(clients: [Client; 8]) -> bool
-    ensures { λ r. ⌜ r ≡ clientsOk clients ⌝ }
+    ensures { λ r. ⌜ r ≡ allBelow (ranges.clientOkAt clients) 8 ⌝ }
 {
     let mut ok = true;
     let mut c: usize = 0;
@@ -205,8 +204,8 @@ fn clients_ok(clients: [Client; 8]) -> bool
     ok
 }
 
-fn none_connected(clients: [Client; 8]) -> bool
-    ensures { λ r. ⌜ r ≡ noneConnected clients ⌝ }
+fn no_clients(clients: [Client; 8]) -> bool
+    ensures { λ r. ⌜ r ≡ ranges.noClients clients ⌝ }
 {
     let mut ok = true;
     let mut c: usize = 0;
@@ -321,7 +320,7 @@ pub fn in_range(s: State) -> bool
     let titles = rules::titles_ok(sheet);
     let untitled = rules::titles_none(sheet);
     let sensors = rules::sensors_ok(sheet);
-    let alone = none_connected(connections);
+    let alone = no_clients(connections);
     // what, in range, only the blank state has
     let blank = untitled
         & ((sheet.count == 0) & (alone & (s.halted & ((s.level == 0) & (s.clock == 0)))));

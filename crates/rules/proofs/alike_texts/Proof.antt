@@ -3,11 +3,11 @@ use borrow.Author.Needs.{needs}
 use Rattle.rules.proofs.alike_texts.Statement.{statement}
 use Rattle.rules.proofs.alike_texts.Tie as tie
 
-same-bytes-requires : tie.Need-same-bytes-requires
-same-bytes-requires c κs = search needs
+same-requires : tie.Need-same-requires
+same-requires c κs = search needs
 
 returns : tie.Need-returns
-returns c = rw (c .same-bytes .ensures)
+returns c = rw (c .same .ensures)
 
 pub alike-texts-spec : {M : Type 1} → statement M
-alike-texts-spec = tie.close (tie.spec same-bytes-requires returns)
+alike-texts-spec = tie.close (tie.spec same-requires returns)

@@ -1,9 +1,9 @@
 -- Where each option keeps its rules, the options are apart just where they are distinct.
 use lib.Dec.{eqb}
 use borrow.Author.Needs.{needs}
-use Rattle.rules.proofs.ApartLaws.{choose}
 use Rattle.rules.proofs.ElementLaws.{options-long}
 use Rattle.rules.proofs.DistinctLaws.{options-are}
+use Rattle.machine.proofs.TestLaws.{choose}
 use Rattle.rules.proofs.options_ok.Statement.{statement}
 use Rattle.rules.proofs.options_ok.Tie as tie
 

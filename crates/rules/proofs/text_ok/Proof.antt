@@ -5,7 +5,7 @@ use lib.ListN.{length}
 use borrow.Author.Needs.{needs}
 use Rattle.machine.specs.Sheet.{textOk}
 use Rattle.rules.specs.Texts.{inCharset}
-use Rattle.rules.proofs.PassLaws.{Filling, filling, filling-on, filling-end}
+use Rattle.rules.proofs.FillLaws.{Filling, filling, filling-on, filling-end}
 use Rattle.rules.proofs.text_ok.Statement.{statement}
 use Rattle.rules.proofs.text_ok.Tie as tie
 

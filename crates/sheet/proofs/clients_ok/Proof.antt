@@ -4,16 +4,13 @@ use mathlib.Core.Path.{_≡_, refl}
 use native.Mathlib.Numerals.{add-one}
 use native.Mathlib.Omega.{arith}
 use borrow.Author.Needs.{needs}
-use lib.ListN.{getD}
 use Rattle.machine.specs.Places.{allBelow}
-use Rattle.machine.specs.State.{noClient}
-use Rattle.machine.specs.Range.{clientOk}
-use Rattle.sheet.specs.Parts.{clientsOk}
+use Rattle.machine.specs.Range.{clientOkAt}
 use Rattle.sheet.proofs.clients_ok.Statement.{statement}
 use Rattle.sheet.proofs.clients_ok.Tie as tie
 
 abbrev Inv-loop : tie.InvT-loop
-Inv-loop clients ok₀ c₀ ok c = (c ≤ 8) × (ok ≡ allBelow (λ c. clientOk (getD clients c noClient)) c)
+Inv-loop clients ok₀ c₀ ok c = (c ≤ 8) × (ok ≡ allBelow (clientOkAt clients) c)
 
 abbrev μ-loop : tie.MeasureT-loop
 μ-loop clients ok₀ c₀ ok c = 8 - c
@@ -42,7 +39,6 @@ unfolding allBelow
 loop-again c = (omega arith, rw (add-one, c .before .before .before .loop .inv .1, c .client-ok .ensures))
 
 returns : tie.Need-returns Inv-loop μ-loop
-unfolding clientsOk
 returns c = let e : c .before .loop .c ≡ 8 = omega arith in rw (c .before .loop .inv .1, e)
 
 pub clients-ok-spec : {M : Type 1} → statement M

@@ -1,7 +1,6 @@
 -- What each pass says, beside the tests of the clock, the level and the blank state.
 use borrow.Author.Needs.{needs}
-use Rattle.machine.specs.Range.{storedOkAt, noClients, isBlank, inRange}
-use Rattle.sheet.specs.Parts.{readingOk, readingsOk, clientsOk, noneConnected}
+use Rattle.machine.specs.Range.{isBlank, inRange}
 use Rattle.sheet.proofs.in_range.Statement.{statement}
 use Rattle.sheet.proofs.in_range.Tie as tie
 
@@ -14,8 +13,8 @@ titles-none-requires c κs = search needs
 sensors-ok-requires : tie.Need-sensors-ok-requires
 sensors-ok-requires c κs = search needs
 
-none-connected-requires : tie.Need-none-connected-requires
-none-connected-requires c κs = search needs
+no-clients-requires : tie.Need-no-clients-requires
+no-clients-requires c κs = search needs
 
 readings-ok-requires : tie.Need-readings-ok-requires
 readings-ok-requires c κs = search needs
@@ -27,9 +26,9 @@ pairs-ok-requires : tie.Need-pairs-ok-requires
 pairs-ok-requires c κs = search needs
 
 returns : tie.Need-returns
-unfolding inRange isBlank noClients storedOkAt readingsOk readingOk clientsOk noneConnected
+unfolding inRange isBlank
 returns c =
-    rw (c .before .before .before .before .before .before .before .before .before .before .before .before .titles-ok .ensures, c .before .before .before .before .before .before .before .before .before .before .before .titles-none .ensures, c .before .before .before .before .before .before .before .before .before .before .sensors-ok .ensures, c .before .before .before .before .before .before .before .before .before .none-connected .ensures, c .before .before .before .before .readings-ok .ensures, c .before .before .before .clients-ok .ensures, c .before .before .pairs-ok .ensures)
+    rw (c .before .before .before .before .before .before .before .before .before .before .before .before .titles-ok .ensures, c .before .before .before .before .before .before .before .before .before .before .before .titles-none .ensures, c .before .before .before .before .before .before .before .before .before .before .sensors-ok .ensures, c .before .before .before .before .before .before .before .before .before .no-clients .ensures, c .before .before .before .before .readings-ok .ensures, c .before .before .before .clients-ok .ensures, c .before .before .pairs-ok .ensures)
 
 pub in-range-spec : {M : Type 1} → statement M
 in-range-spec =
@@ -38,7 +37,7 @@ in-range-spec =
     titles-ok-requires
     titles-none-requires
     sensors-ok-requires
-    none-connected-requires
+    no-clients-requires
     readings-ok-requires
     clients-ok-requires
     pairs-ok-requires

@@ -5,12 +5,12 @@ use native.Mathlib.Numerals.{add-one}
 use native.Mathlib.Omega.{arith}
 use borrow.Author.Needs.{needs}
 use Rattle.machine.specs.Places.{allBelow}
-use Rattle.sheet.specs.Parts.{readingOk, readingsOk}
+use Rattle.machine.specs.Range.{storedOkAt}
 use Rattle.sheet.proofs.readings_ok.Statement.{statement}
 use Rattle.sheet.proofs.readings_ok.Tie as tie
 
 abbrev Inv-loop : tie.InvT-loop
-Inv-loop clock sheet readings count ok₀ j₀ ok j = (j ≤ 32) × (ok ≡ allBelow (readingOk sheet clock readings) j)
+Inv-loop clock sheet readings count ok₀ j₀ ok j = (j ≤ 32) × (ok ≡ allBelow (storedOkAt sheet clock readings) j)
 
 abbrev μ-loop : tie.MeasureT-loop
 μ-loop clock sheet readings count ok₀ j₀ ok j = 32 - j
@@ -44,11 +44,10 @@ loop-less : tie.Need-loop-less Inv-loop μ-loop
 loop-less c = search needs
 
 loop-again : tie.Need-loop-again Inv-loop μ-loop
-unfolding allBelow readingOk
+unfolding allBelow storedOkAt
 loop-again c = (omega arith, rw (add-one, c .before .before .before .before .loop .inv .1, c .stored-ok .ensures))
 
 returns : tie.Need-returns Inv-loop μ-loop
-unfolding readingsOk
 returns c = let e : c .before .loop .j ≡ 32 = omega arith in rw (c .before .loop .inv .1, e)
 
 pub readings-ok-spec : {M : Type 1} → statement M

@@ -1,27 +1,17 @@
--- A pass over a list: what is found so far, and the test of the rest, is the test of the whole.
+-- The pass over a text in its array: its bytes, and the zeros behind it.
 use Prim.Native.Nat.{ℕ, suc, _+_, _-_, _<_, _≤_}
 use native.Mathlib.Omega.{arith}
-use mathlib.Core.Path.{_≡_, refl, sym, _∙_}
+use mathlib.Core.Path.{_≡_, refl}
 use mathlib.Core.Bool.{Bool, true, false, _&&_, _||_, and-assoc, or-false}
 use mathlib.Core.List.{List}
 use lib.Dec.{eqb, leb, ltb}
 use lib.ListN.{length, take, drop, getD, drop-of-length-le}
 use lib.Seq.{take-nil, drop-nil}
 use borrow.Author.Tests.{ltb-true, ltb-false, lt-leb, le-leb}
-use Rattle.output.specs.Text.{same, all}
+use Rattle.output.specs.Text.{all}
 use Rattle.line.proofs.At.{at}
-use Rattle.line.proofs.SameLaws.{same-over}
+use Rattle.line.proofs.PassLaws.{found-on, found-end}
 use Rattle.machine.specs.Sheet.{zeroByte}
-
--- the rest begins with the test t
-on : (ok t rest rest₀ whole : Bool) → (ok && rest₀) ≡ whole → rest₀ ≡ (t && rest) → ((ok && t) && rest) ≡ whole
-on true t rest rest₀ whole h e = sym e ∙ h
-on false t rest rest₀ whole h e = h
-
--- nothing is left
-end : (ok rest whole : Bool) → (ok && rest) ≡ whole → rest ≡ true → ok ≡ whole
-end true rest whole h e = sym e ∙ h
-end false rest whole h e = h
 
 -- n bytes of a kind, then zeros
 abbrev pub filled : (ℕ → Bool) → ℕ → List ℕ → Bool
@@ -59,23 +49,8 @@ module _ {is : ℕ → Bool} {n : ℕ} {bytes : List ℕ} {ok : Bool} {i : ℕ} 
   pub filling-on : i < length bytes → Filling is n bytes (ok && fillAt is n bytes i) (i + 1)
   filling-on h = record {
     inside = omega arith;
-    found = on ok (fillAt is n bytes i) (filled is (n - (i + 1)) (drop (i + 1) bytes)) (filled is (n - i) (drop i bytes)) (filled is n bytes) (f .found) (filled-at is n bytes i h);
+    found = found-on ok (fillAt is n bytes i) (filled is (n - (i + 1)) (drop (i + 1) bytes)) (filled is (n - i) (drop i bytes)) (filled is n bytes) (f .found) (filled-at is n bytes i h);
   }
 
   pub filling-end : length bytes ≤ i → ok ≡ filled is n bytes
-  filling-end h = end ok (filled is (n - i) (drop i bytes)) (filled is n bytes) (f .found) (rw (drop-of-length-le bytes h, take-nil {A = ℕ} (n - i), drop-nil {A = ℕ} (n - i)))
-
--- two arrays of one length, compared
-pub record Comparing (a b : List ℕ) (ok : Bool) (i : ℕ) : Type 0 where
-  pub inside : i ≤ length a
-  pub found : (ok && same (drop i a) (drop i b)) ≡ same a b
-
-module _ {a b : List ℕ} {ok : Bool} {i : ℕ} (f : Comparing a b ok i) where
-  pub comparing-on : i < length a → i < length b → Comparing a b (ok && eqb (getD a i 0) (getD b i 0)) (i + 1)
-  comparing-on h k = record {
-    inside = omega arith;
-    found = on ok (eqb (getD a i 0) (getD b i 0)) (same (drop (i + 1) a) (drop (i + 1) b)) (same (drop i a) (drop i b)) (same a b) (f .found) (rw (at a i h, at b i k));
-  }
-
-  pub comparing-end : length a ≤ i → length b ≤ i → ok ≡ same a b
-  comparing-end h k = end ok (same (drop i a) (drop i b)) (same a b) (f .found) (same-over a b i h k)
+  filling-end h = found-end ok (filled is (n - i) (drop i bytes)) (filled is n bytes) (f .found) (rw (drop-of-length-le bytes h, take-nil {A = ℕ} (n - i), drop-nil {A = ℕ} (n - i)))

@@ -8,9 +8,9 @@ use mathlib.Core.Bool.{not}
 use lib.ListN.{getD}
 use Rattle.machine.specs.Places.{allBelow}
 use Rattle.machine.specs.State.{noClient}
-use Rattle.sheet.specs.Parts.{noneConnected}
-use Rattle.sheet.proofs.none_connected.Statement.{statement}
-use Rattle.sheet.proofs.none_connected.Tie as tie
+use Rattle.machine.specs.Range.{noClients}
+use Rattle.sheet.proofs.no_clients.Statement.{statement}
+use Rattle.sheet.proofs.no_clients.Tie as tie
 
 abbrev Inv-loop : tie.InvT-loop
 Inv-loop clients ok₀ c₀ ok c = (c ≤ 8) × (ok ≡ allBelow (λ c. not (getD clients c noClient .connected)) c)
@@ -39,11 +39,11 @@ unfolding allBelow
 loop-again c = (omega arith, rw (add-one, c .before .before .before .loop .inv .1))
 
 returns : tie.Need-returns Inv-loop μ-loop
-unfolding noneConnected
+unfolding noClients
 returns c = let e : c .before .loop .c ≡ 8 = omega arith in rw (c .before .loop .inv .1, e)
 
-pub none-connected-spec : {M : Type 1} → statement M
-none-connected-spec =
+pub no-clients-spec : {M : Type 1} → statement M
+no-clients-spec =
     tie.close
     (tie.spec
     Inv-loop
