@@ -11,17 +11,13 @@ use Rattle.machine.specs.declared.Request.{Request}
 use Rattle.machine.specs.declared.Request.the-variants.{Halt, Restart}
 use Rattle.machine.specs.Places.{isZero}
 use Rattle.machine.specs.Requests.{Asked, Nothing, NotMessage, Reply, Unknown, Asks, asked, answer}
-use Rattle.machine.specs.Declined.{Action, Connect, Disconnect, Tick, Reading, Log, Line, Call}
+use Rattle.machine.specs.Declined.{Action, Connect, Disconnect, Tick, Reading, Log, Line, callOf}
 use Rattle.machine.specs.Machine.{Effect, perform, lineWork, step}
 use Rattle.machine.specs.TwoDevices.{granted, endsAll}
 use Rattle.machine.proofs.StepLaws.{by-cases, nameFor, asks-is, names-apart}
 use Rattle.machine.proofs.AnsweredLaws.{okIn, answered-is, refused-not-ok, asksFor, request-is, AnswersOk, halt-ok, restart-ok}
 use Rattle.machine.proofs.NextLaws.{endsConnections}
 use Rattle.machine.proofs.Sent.{sent-well-formed}
-
--- a call by its parts
-abbrev pub callOf : Action → List ℕ → Call
-callOf action lent = record { action = action; lent = lent }
 
 and-none : (b : Bool) → false ≡ (b && false)
 and-none true = refl

@@ -1,5 +1,7 @@
 pub mod TestLaws
 pub mod PlacesLaws
+pub mod StoreLaws
+pub mod ArrayLaws
 pub mod StateLaws
 pub mod SheetLaws
 pub mod RangeLaws

@@ -56,7 +56,8 @@ module _ (s : State) (cause : Cause) (r : Sensors (s .sheet)) (reports : Reporta
 
 -- A call that is carried out.
 
-address-most : (address : List ℕ) → addressFits address ≡ true → length address ≤ 48
+-- the length of an address that fits
+pub address-most : (address : List ℕ) → addressFits address ≡ true → length address ≤ 48
 unfolding addressFits
 address-most address h = leb-true (length address) 48 (and-true (leb (length address) 48) (all graphic address) (and-true (leb 1 (length address)) _ h .1) .0)
 

@@ -23,7 +23,7 @@ use Rattle.machine.specs.State.{connected, pairOf, present, noSubscripti
 use Rattle.machine.specs.Range.{isNone}
 use Rattle.machine.specs.Report.{visit, dueAt, reported}
 use Rattle.machine.specs.Requests.{Asked, Nothing, NotMessage, Reply, Unknown, Asks, asked, listed, strategyAsked, sampled, sampledPairs, answer}
-use Rattle.machine.specs.Declined.{Action, Connect, Disconnect, Tick, Reading, Log, Line, Call, actionDeclined, lineDeclined, countFits, declined}
+use Rattle.machine.specs.Declined.{Action, Connect, Disconnect, Tick, Reading, Log, Line, Call, callOf, actionDeclined, lineDeclined, countFits, declined}
 use Rattle.machine.specs.Machine.{Effect, perform, lineWork, step, sampleGiven}
 use Rattle.machine.specs.TwoDevices.{after, connects, isConnect, names, strategyIn, strategyAfter, strategyOf}
 use Rattle.machine.proofs.TestLaws.{cond-ap, cond-same, passed, eqb-sym}
@@ -32,7 +32,7 @@ use Rattle.machine.proofs.RangeLaws.{range-out}
 use Rattle.machine.proofs.StepLaws.{by-cases, accepted, client-fits, asks-is, nameFor}
 use Rattle.machine.proofs.KeptLaws.{perform-kept}
 use Rattle.machine.proofs.AnsweredLaws.{asksFor, sampling-ok}
-use Rattle.machine.proofs.GrantedLaws.{callOf, granted-is}
+use Rattle.machine.proofs.GrantedLaws.{granted-is}
 use Rattle.machine.proofs.ListLaws.{opened-alone, sheet-is, sent-packets, connect-pair}
 use Rattle.machine.proofs.NextLaws.{answer-next}
 

@@ -12,7 +12,7 @@ use Rattle.machine.specs.Places.{Each}
 use Rattle.machine.specs.State.{blank}
 use Rattle.machine.specs.Range.{inRange}
 use Rattle.machine.specs.Opening.{opened}
-use Rattle.machine.specs.Declined.{Connect, Call, addressFits}
+use Rattle.machine.specs.Declined.{Connect, Call, callOf, addressFits}
 use Rattle.machine.specs.Machine.{step, written}
 use Rattle.machine.specs.Reader.{Impossible, news, viewBy, noView, standing}
 use Rattle.machine.specs.TwoDevices.{returned, connectedAtEnd, Device, sheetOf, archiveConnected, messages, final}
@@ -51,4 +51,4 @@ pub record KeptInRange : Type 0 where
 -- the assumptions of demand 3 can be met: on every sheet that opens, a connect that fits leaves its client connected at the end
 abbrev pub Connectable : Type 0
 Connectable = (bytes : List ℕ) → opened bytes .number ≡ 0 → (c : ℕ) → c < 8 → (address : List ℕ) → addressFits address ≡ true → (lent : List ℕ) → 65536 ≤ length lent
-    → connectedAtEnd bytes c (record { action = Connect c address; lent = lent } ∷ []) ≡ true
+    → connectedAtEnd bytes c (callOf (Connect c address) lent ∷ []) ≡ true

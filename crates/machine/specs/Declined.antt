@@ -37,6 +37,10 @@ pub record Call : Type 0 where
   pub action : Action
   pub lent : List ℕ
 
+-- a call by its parts
+abbrev pub callOf : Action → List ℕ → Call
+callOf action lent = record { action = action; lent = lent }
+
 -- Rows 5 to 11.
 
 -- "client above 7", 5; "connect: connected; else: not connected", 6

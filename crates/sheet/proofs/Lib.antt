@@ -1,2 +1,1 @@
-pub mod StoreLaws
 pub mod OpenLaws

@@ -11,7 +11,7 @@ use Rattle.machine.specs.declared.Stored.{Stored}
 use Rattle.machine.specs.Places.{tabulate}
 use Rattle.machine.specs.Sheet.{sensorOf}
 use Rattle.machine.specs.State.{noStored, freshStored, freshReadings}
-use Rattle.sheet.proofs.StoreLaws.{filled-one, filled-all}
+use Rattle.machine.proofs.StoreLaws.{filled-one, filled-all}
 use Rattle.sheet.proofs.fresh_readings.Statement.{statement}
 use Rattle.sheet.proofs.fresh_readings.Tie as tie
 

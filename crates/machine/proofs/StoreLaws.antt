@@ -2,15 +2,15 @@
 use Prim.Native.Nat.{ℕ, suc, _+_, _<_}
 use native.Mathlib.Omega.{arith}
 use native.Mathlib.Numerals.{add-one}
-use mathlib.Core.Path.{_≡_, refl, sym, _∙_}
+use mathlib.Core.Path.{_≡_, refl, sym, _∙_, ap}
 use mathlib.Core.Bool.{Bool, true, false, cond}
 use mathlib.Core.List.{List, [], _∷_, _++_, append-assoc, append-nil}
 use lib.Dec.{eqb}
 use lib.ListN.{length, getD, set, drop, length-set, drop-of-length-le}
-use lib.Seq.{drop-cons, set-at, getD-set-same, getD-set-other, ext-getD}
+use lib.Seq.{drop-cons, set-at, getD-set-same, getD-set-other, getD-append-seam, ext-getD}
 use borrow.Author.Tests.{eqb-true, eqb-false}
 use Rattle.machine.specs.Places.{tabulate}
 use Rattle.machine.proofs.PlacesLaws.{length-tabulate, getD-tabulate}
 
 module _ {A : Type 0} (f : ℕ → A) where
   -- one more element written
@@ -20,19 +20,19 @@ module _ {A : Type 0} (f : ℕ → A) where
       rw (add-one, drop-cons l n (f n) h, set-at (tabulate f n) (getD l n (f n)) (drop (suc n) l) (f n) n (length-tabulate f n))
       (sym (append-assoc (tabulate f n) (f n ∷ []) (drop (suc n) l)))
 
+  -- the next element is as it was
+  pub unwritten : (l : List A) (n : ℕ) (d : A) → n < length l → getD (tabulate f n ++ drop n l) n d ≡ getD l n d
+  unwritten l n d h =
+      rw (drop-cons l n d h)
+      (ap (λ k. getD (tabulate f n ++ (getD l n d ∷ drop (suc n) l)) k d) (sym (length-tabulate f n)) ∙ getD-append-seam (tabulate f n) (getD l n d) (drop (suc n) l) d)
+
   -- all written
   pub filled-all : (l : List A) (n : ℕ) → length l ≡ n → tabulate f n ++ drop n l ≡ tabulate f n
   filled-all l n h = rw (drop-of-length-le l {i = n} (omega arith)) (append-nil (tabulate f n))
 
 module _ {A : Type 0} where
-  -- a list is its elements by place
-  pub by-place : (l : List A) (d : A) → l ≡ tabulate (λ k. getD l k d) (length l)
-  by-place l d =
-      ext-getD d l (tabulate (λ k. getD l k d) (length l)) (sym (length-tabulate (λ k. getD l k d) (length l)))
-      (λ i h. sym (getD-tabulate (λ k. getD l k d) (length l) i d h))
-
   -- what stands at a place after a store
-  abbrev pub stored-at : List A → ℕ → A → A → ℕ → A
+  abbrev stored-at : List A → ℕ → A → A → ℕ → A
   stored-at l i x d k = cond (eqb k i) x (getD l k d)
 
   -- a store, by place
