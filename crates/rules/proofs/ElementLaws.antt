@@ -14,6 +14,7 @@ use Rattle.machine.specs.declared.Choice.{Choice}
 use Rattle.machine.specs.declared.Sensor.{Sensor}
 use Rattle.machine.specs.declared.Sheet.{Sheet}
 use Rattle.machine.specs.Sheet.{noChoice, noSensor, sensorOf}
+use Rattle.machine.proofs.ArrayLaws.{options-many}
 use Rattle.machine.proofs.Choice.{the-type as choice-type}
 use Rattle.machine.proofs.Sensor.{the-type as sensor-type}
 use Rattle.machine.proofs.Sheet.{the-type as sheet-type}
@@ -40,7 +41,7 @@ choices-long os vs h k l =
 pub options-long : (n : Sensor) (vs : List Val) → shadow (declared.row sensor-type .own n vs) → (k : ℕ) → k < 8 → length (getD (n .options) k noChoice .text) ≡ 16
 options-long n vs h k l =
     let f = h .1 .1 .1 .1 .1 .1 .1 .1 .1 .1 .1 .0 in
-    let e : length (n .options) ≡ 8 = simp length-map at (f .1 .0 .1) in
+    let e = options-many n vs h in
     let g = element-of _ _ _ (n .options) (f .0) k noChoice (f .1 .1) (omega arith) in
     search needs
 

@@ -1,4 +1,5 @@
 pub mod FillLaws
+pub mod LentLaws
 pub mod EmptyLaws
 pub mod ElementLaws
 pub mod ApartLaws

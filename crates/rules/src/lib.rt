@@ -9,14 +9,15 @@ ghost use mathlib.Core.Bool.{cond};
 ghost use lib.ListN.{getD};
 ghost use Rattle.machine.specs.Places.{allBelow};
 ghost use Rattle.machine.specs.Sheet as sheets;
-ghost use Rattle.rules.specs.Texts.{inCharset};
+ghost use Rattle.rules.specs.Texts.{inCharset, lentOk};
 ghost use Rattle.rules.specs.Apart.{alike, choicesApart, namesApart};
 
-// The bytes that a text may have: name bytes, 0x21–0x7E, or 0x20–0x7E.
+// The bytes that a text may have: name bytes, 0x21–0x7E, 0x20–0x7E, or those of a log entry, which may also be 9, 10 and 13.
 pub enum Charset {
     Name,
     Graphic,
     Printable,
+    Entry,
 }
 
 fn name_byte(b: u8) -> bool
@@ -33,7 +34,21 @@ pub fn in_charset(charset: Charset, b: u8) -> bool
         Charset::Name => name_byte(b),
         Charset::Graphic => (0x21 <= b) & (b <= 0x7E),
         Charset::Printable => (0x20 <= b) & (b <= 0x7E),
+        Charset::Entry => ((0x20 <= b) & (b <= 0x7E)) | ((b == 9) | ((b == 10) | (b == 13))),
     }
+}
+
+// Whether bytes that a call is lent are a text of such bytes, `least` to `most` of them.
+pub fn lent_ok(bytes: &[u8], least: usize, most: usize, charset: Charset) -> bool
+    ensures { λ r. ⌜ r ≡ lentOk least most (inCharset charset) (now (bytes .entry)) ⌝ }
+{
+    let mut ok = true;
+    let mut i = 0;
+    while i < bytes.len() {
+        ok = ok & in_charset(charset, bytes[i]);
+        i += 1;
+    }
+    (least <= bytes.len()) & ((bytes.len() <= most) & ok)
 }
 
 // Whether the first `len` bytes of an array are a text of such bytes, `least` to `most` of them, and the others zero.

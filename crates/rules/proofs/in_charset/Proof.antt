@@ -1,6 +1,7 @@
 -- The variant names the test.
 use borrow.Author.Needs.{needs}
 use Rattle.machine.specs.Sheet.{graphic, printable}
+use Rattle.machine.specs.Declined.{entryByte}
 use Rattle.rules.proofs.in_charset.Statement.{statement}
 use Rattle.rules.proofs.in_charset.Tie as tie
 
@@ -16,6 +17,9 @@ enum-told-2 c = search needs
 enum-told-3 : tie.Need-enum-told-3
 enum-told-3 c = search needs
 
+enum-told-4 : tie.Need-enum-told-4
+enum-told-4 c = search needs
+
 returns : tie.Need-returns
 returns c = rw (c .before .enum-told .given .1) (c .name-byte .ensures)
 
@@ -27,7 +31,11 @@ returns-3 : tie.Need-returns-3
 unfolding printable
 returns-3 c = rw (c .enum-told3 .given .1)
 
+returns-4 : tie.Need-returns-4
+unfolding entryByte printable
+returns-4 c = rw (c .enum-told4 .given .1)
+
 pub in-charset-spec : {M : Type 1} → statement M
 in-charset-spec =
     tie.close
-    (tie.spec enum-told name-byte-requires enum-told-2 enum-told-3 returns returns-2 returns-3)
+    (tie.spec enum-told name-byte-requires enum-told-2 enum-told-3 enum-told-4 returns returns-2 returns-3 returns-4)

@@ -1,0 +1,50 @@
+-- What is found so far, and the test of the rest, is the test of the whole.
+use Prim.Native.Nat.{_-_}
+use native.Mathlib.Omega.{arith}
+use lib.ListN.{length}
+use borrow.Author.Needs.{needs}
+use Rattle.rules.specs.Texts.{inCharset}
+use Rattle.rules.proofs.LentLaws.{Passing, passing, passing-on, passing-end}
+use Rattle.rules.proofs.lent_ok.Statement.{statement}
+use Rattle.rules.proofs.lent_ok.Tie as tie
+
+abbrev Inv-loop : tie.InvT-loop
+Inv-loop bytes least most charset ok₀ i₀ ok i = Passing (inCharset charset) bytes ok i
+
+abbrev μ-loop : tie.MeasureT-loop
+μ-loop bytes least most charset ok₀ i₀ ok i = length bytes - i
+
+loop-holds : tie.Need-loop-holds Inv-loop μ-loop
+loop-holds c = passing _ _
+
+shared-slice-read-in-charset : tie.Need-shared-slice-read-in-charset Inv-loop μ-loop
+shared-slice-read-in-charset c = omega arith
+
+in-charset-requires : tie.Need-in-charset-requires Inv-loop μ-loop
+in-charset-requires c κs = search needs
+
+add-i : tie.Need-add-i Inv-loop μ-loop
+add-i c = omega arith
+
+loop-less : tie.Need-loop-less Inv-loop μ-loop
+loop-less c = omega arith
+
+loop-again : tie.Need-loop-again Inv-loop μ-loop
+loop-again c = rw (c .in-charset .ensures) (passing-on (c .before .before .before .loop .inv) (omega arith))
+
+returns : tie.Need-returns Inv-loop μ-loop
+returns c = rw (passing-end (c .before .loop .inv) (omega arith))
+
+pub lent-ok-spec : {M : Type 1} → statement M
+lent-ok-spec =
+    tie.close
+    (tie.spec
+    Inv-loop
+    μ-loop
+    loop-holds
+    shared-slice-read-in-charset
+    in-charset-requires
+    add-i
+    loop-less
+    loop-again
+    returns)
