@@ -1,0 +1,2 @@
+pub mod LevelLaws
+pub mod ServedLaws
