@@ -1,0 +1,2 @@
+pub mod WidthLaws
+pub mod VisitLaws
