@@ -1,0 +1,26 @@
+-- A place below 8 is the client's; past the clients none is connected.
+use mathlib.Core.Path.{_≡_, sym, ap}
+use native.Mathlib.Omega.{arith}
+use lib.ListN.{length, List·getD-eq-default}
+use borrow.Author.Needs.{needs}
+use Rattle.machine.specs.declared.Client.{Client}
+use Rattle.machine.specs.State.{noClient}
+use Rattle.device.proofs.is_connected.Statement.{statement}
+use Rattle.device.proofs.is_connected.Tie as tie
+
+mul-k : tie.Need-mul-k
+mul-k c = search needs
+
+array-copy-out-k : tie.Need-array-copy-out-k
+array-copy-out-k c = search needs
+
+returns : tie.Need-returns
+returns c = search needs
+
+returns-2 : tie.Need-returns-2
+returns-2 c =
+    let e : length (c .before .args .t1) ≡ 8 = search needs in
+    sym (ap (λ (k : Client). k .connected) (List·getD-eq-default (c .before .args .t1) noClient (omega (arith, c .if1 .left))))
+
+pub is-connected-spec : {M : Type 1} → statement M
+is-connected-spec = tie.close (tie.spec mul-k array-copy-out-k returns returns-2)
