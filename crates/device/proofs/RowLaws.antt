@@ -1,30 +1,21 @@
--- The rows of `connect`, `disconnect` and `log` by the tests of their parts.
+-- The rows of `connect` and `disconnect`.
 use Prim.Native.Nat.{ℕ, _≤_, _<_}
 use native.Mathlib.Omega.{arith}
 use mathlib.Core.Path.{_≡_, sym, _∙_}
-use mathlib.Core.Bool.{Bool, cond, _&&_}
+use mathlib.Core.Bool.{Bool, cond}
 use mathlib.Core.List.{List}
-use lib.Dec.{leb, leb·zero}
 use lib.ListN.{length}
-use Rattle.rules.specs.Texts.{lentOk}
 use Rattle.machine.specs.declared.State.{State}
-use Rattle.machine.specs.Sheet.{nameByte}
 use Rattle.machine.specs.Range.{inRange}
-use Rattle.machine.specs.Declined.{clientDeclined, addressFits, entryByte, entryFits}
+use Rattle.machine.specs.Declined.{clientDeclined, addressFits}
 use Rattle.machine.proofs.TestLaws.{fitted}
 use Rattle.machine.proofs.StepLaws.{client-fits}
 use Rattle.machine.proofs.Sent.{address-most}
 use Rattle.device.proofs.AnswerLaws.{rowsThen, own-passes}
 
--- rows 5 and 6 by the test and the rows behind them
-pub client-own : (c : ℕ) {refused r : Bool} {own o : ℕ} → refused ≡ r → own ≡ o → clientDeclined refused c own ≡ clientDeclined r c o
-client-own c e f = rw (e, f)
-
--- the test of a log entry; a message may be empty
-pub entry-tested : (level : ℕ) (logger said : List ℕ) {named plain : Bool} → named ≡ lentOk 1 32 nameByte logger → plain ≡ lentOk 0 256 entryByte said
-    → entryFits level logger said ≡ ((leb 1 level && leb level 6) && (named && plain))
-unfolding entryFits
-entry-tested level logger said e f = rw (e, f, leb·zero (length said))
+-- rows 5 and 6 for the same test and the same rows behind them
+pub client-same : (c : ℕ) {refused r : Bool} {own o : ℕ} → refused ≡ r → own ≡ o → clientDeclined refused c own ≡ clientDeclined r c o
+client-same c e f = rw (e, f)
 
 -- where no row declines, the client is one of the eight and its address fits
 pub connect-passes : (s : State) (lent : List ℕ) (refused : Bool) (client : ℕ) (address : List ℕ) {good : Bool} {row own n : ℕ} → good ≡ inRange s → row ≡ cond (addressFits address) 0 7

@@ -71,7 +71,7 @@ fn client_rows(refused: bool, client: usize, own: u8) -> u8
 fn address_row(address: &[u8]) -> u8
     ensures { λ r. ⌜ r ≡ cond (calls.addressFits (now (address .entry))) 0 7 ⌝ }
 {
-    if rules::lent_ok(address, 1, 48, Charset::Graphic) {
+    if rules::text_fits(address, 1, 48, Charset::Graphic) {
         0
     } else {
         7
@@ -100,8 +100,8 @@ fn sensor_row(count: u8, sensor: usize) -> u8
 fn entry_row(level: u8, logger: &[u8], message: &[u8]) -> u8
     ensures { λ r. ⌜ r ≡ cond (calls.entryFits level (now (logger .entry)) (now (message .entry))) 0 11 ⌝ }
 {
-    let named = rules::lent_ok(logger, 1, 32, Charset::Name);
-    let plain = rules::lent_ok(message, 0, 256, Charset::Entry);
+    let named = rules::text_fits(logger, 1, 32, Charset::Name);
+    let plain = rules::text_fits(message, 0, 256, Charset::Entry);
     if ((1 <= level) & (level <= 6)) & (named & plain) {
         0
     } else {

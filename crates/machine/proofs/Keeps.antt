@@ -15,7 +15,7 @@ use Rattle.machine.specs.declared.State.{State}
 use Rattle.machine.specs.declared.Request.{Request}
 use Rattle.machine.specs.declared.Request.the-variants.{ClientList, Halt, Help, LogLevel, Restart, SensorList, SensorSampling, SensorValue, VersionList, Watchdog}
 use Rattle.machine.specs.declared.Cause.the-variants.{Tick as Ticked, Reading as Read}
-use Rattle.machine.specs.Sheet.{sensorOf, notOnSheet, graphic, zeroByte, textOk, titlesNone, titlesOk}
+use Rattle.machine.specs.Sheet.{sensorOf, notOnSheet, graphic, zeroByte, textOk, textFits, titlesNone, titlesOk}
 use Rattle.machine.specs.State.{connected, startLevel, clientAt, blankClient, withClock, withReading}
 use Rattle.machine.specs.Range.{clientOk, noClients, isBlank, inRange}
 use Rattle.machine.specs.Report.{Work}
@@ -47,7 +47,7 @@ zeros-zero (suc n) = zeros-zero n
 
 -- the client of an address that fits
 connected-fits : (t : List ℕ) → addressFits t ≡ true → clientOk (clientAt t) ≡ true
-unfolding addressFits clientOk textOk
+unfolding addressFits textFits clientOk textOk
 connected-fits t h =
     let a = and-true (leb 1 (length t)) (leb (length t) 48 && all graphic t) h in
     let b = and-true (leb (length t) 48) (all graphic t) (a .1) in

@@ -19,7 +19,7 @@ use Rattle.machine.specs.declared.State.{State}
 use Rattle.machine.specs.declared.Cause.{Cause}
 use Rattle.machine.specs.declared.Cause.the-variants.{Tick as Ticked, Reading as Read}
 use Rattle.machine.specs.Places.{gather, Each}
-use Rattle.machine.specs.Sheet.{sensorOf, graphic, nameByte}
+use Rattle.machine.specs.Sheet.{sensorOf, graphic, nameByte, textFits}
 use Rattle.machine.specs.State.{present, connected, pairAt, withClock, withReading}
 use Rattle.machine.specs.Range.{sampleOk, inRange}
 use Rattle.machine.specs.Messages.{clientConnected, logEntry, toAll}
@@ -56,18 +56,21 @@ module _ (s : State) (cause : Cause) (r : Sensors (s .sheet)) (reports : Reporta
 
 -- A call that is carried out.
 
+text-most : (least most : ℕ) (is : ℕ → Bool) (t : List ℕ) → textFits least most is t ≡ true → length t ≤ most
+unfolding textFits
+text-most least most is t h = leb-true (length t) most (and-true (leb (length t) most) (all is t) (and-true (leb least (length t)) _ h .1) .0)
+
 -- the length of an address that fits
 pub address-most : (address : List ℕ) → addressFits address ≡ true → length address ≤ 48
 unfolding addressFits
-address-most address h = leb-true (length address) 48 (and-true (leb (length address) 48) (all graphic address) (and-true (leb 1 (length address)) _ h .1) .0)
+address-most address h = text-most 1 48 graphic address h
 
 entry-most : (level : ℕ) (logger said : List ℕ) → entryFits level logger said ≡ true → (length logger ≤ 32) × (length said ≤ 256)
 unfolding entryFits
 entry-most level logger said h =
     let a = and-true (leb 1 level && leb level 6) _ h in
-    let b = and-true (leb 1 (length logger) && (leb (length logger) 32 && all nameByte logger)) (leb (length said) 256 && all entryByte said) (a .1) in
-    let c = and-true (leb 1 (length logger)) (leb (length logger) 32 && all nameByte logger) (b .0) in
-    (leb-true (length logger) 32 (and-true (leb (length logger) 32) (all nameByte logger) (c .1) .0), leb-true (length said) 256 (and-true (leb (length said) 256) (all entryByte said) (b .1) .0))
+    let b = and-true (textFits 1 32 nameByte logger) (textFits 0 256 entryByte said) (a .1) in
+    (text-most 1 32 nameByte logger (b .0), text-most 0 256 entryByte said (b .1))
 
 module _ (s : State) (g : InRange s) where
   connect-sent : (c : ℕ) (address : List ℕ) → actionDeclined (s .sheet) s (Connect c address) ≡ 0 → Sendable (connectSends (s .sheet) s c address)

@@ -5,7 +5,6 @@ use mathlib.Core.List.{List, [], _∷_}
 use mathlib.Core.Option.{Option, none, some}
 use lib.Dec.{eqb, leb, ltb}
 use lib.ListN.{length}
-use Rattle.output.specs.Text.{all}
 use Rattle.output.specs.Read.{inTime}
 use Rattle.message.specs.Message.{Message}
 use Rattle.message.specs.Delivery.{Delivery, to}
@@ -17,7 +16,7 @@ use Rattle.machine.specs.declared.State.{State}
 use Rattle.machine.specs.declared.Request.{Request}
 use Rattle.machine.specs.declared.Request.the-variants.{ClientList, Halt, Help, LogLevel, Restart, SensorList, SensorSampling, SensorValue, VersionList, Watchdog}
 use Rattle.machine.specs.Places.{any, twice}
-use Rattle.machine.specs.Sheet.{sensorOf, notOnSheet, graphic, printable, nameByte}
+use Rattle.machine.specs.Sheet.{sensorOf, notOnSheet, graphic, printable, nameByte, textFits}
 use Rattle.machine.specs.State.{connected}
 use Rattle.machine.specs.Range.{inRange}
 use Rattle.machine.specs.Requests.{Asked, Nothing, NotMessage, Reply, Unknown, Asks, asked, argument, askedPlaces, requestNamed, levelOf, listed, kindAsked, parameterCount, byDifference, isBad, parametersAsked, strategyAsked, shortestOverLongest}
@@ -49,7 +48,7 @@ clientDeclined refused c rest = cond (ltb 7 c) 5 (cond refused 6 rest)
 
 -- "address text (1–48 bytes 0x21–0x7E)"
 unfoldable pub addressFits : List ℕ → Bool
-addressFits t = leb 1 (length t) && (leb (length t) 48 && all graphic t)
+addressFits t = textFits 1 48 graphic t
 
 -- "tick below clock or above limit"
 unfoldable pub tickFits : State → ℕ → Bool
@@ -61,9 +60,7 @@ entryByte b = printable b || (eqb b 9 || (eqb b 10 || eqb b 13))
 
 -- "log level off/all, logger not 1–32 name bytes, message over 256 or outside 0x20–0x7E, 9, 10, 13"
 unfoldable pub entryFits : ℕ → List ℕ → List ℕ → Bool
-entryFits level logger said =
-    (leb 1 level && leb level 6)
-    && ((leb 1 (length logger) && (leb (length logger) 32 && all nameByte logger)) && (leb (length said) 256 && all entryByte said))
+entryFits level logger said = (leb 1 level && leb level 6) && (textFits 1 32 nameByte logger && textFits 0 256 entryByte said)
 
 -- Rows 14 to 23.
 

@@ -4,7 +4,7 @@ use Prim.Native.Char.{code}
 use mathlib.Core.Bool.{Bool, cond, not, _&&_, _||_}
 use mathlib.Core.List.{List, []}
 use lib.Dec.{eqb, leb, ltb}
-use lib.ListN.{getD, take, drop}
+use lib.ListN.{length, getD, take, drop}
 use Rattle.output.specs.Text.{same, isDigit, all}
 use Rattle.output.specs.Read.{inInteger, inFloat}
 use Rattle.line.specs.Line.{letter}
@@ -83,6 +83,10 @@ zeroByte b = eqb b 0
 -- a text of so many bytes at least and at most, each of a kind; the rest of its array is zero
 unfoldable pub textOk : ℕ → ℕ → (ℕ → Bool) → ℕ → List ℕ → Bool
 textOk least most is len bytes = leb least len && (leb len most && (all is (take len bytes) && all zeroByte (drop len bytes)))
+
+-- a text that is handed over as it is: so many bytes at least and at most, each of a kind
+unfoldable pub textFits : ℕ → ℕ → (ℕ → Bool) → List ℕ → Bool
+textFits least most is t = leb least (length t) && (leb (length t) most && all is t)
 
 -- texts at the places below n, "all distinct"
 unfoldable pub distinct : (ℕ → List ℕ) → ℕ → Bool

@@ -1,5 +1,5 @@
 pub mod FillLaws
-pub mod LentLaws
+pub mod BytesLaws
 pub mod EmptyLaws
 pub mod ElementLaws
 pub mod ApartLaws

@@ -9,7 +9,7 @@ ghost use mathlib.Core.Bool.{cond};
 ghost use lib.ListN.{getD};
 ghost use Rattle.machine.specs.Places.{allBelow};
 ghost use Rattle.machine.specs.Sheet as sheets;
-ghost use Rattle.rules.specs.Texts.{inCharset, lentOk};
+ghost use Rattle.rules.specs.Texts.{inCharset};
 ghost use Rattle.rules.specs.Apart.{alike, choicesApart, namesApart};
 
 // The bytes that a text may have: name bytes, 0x21–0x7E, 0x20–0x7E, or those of a log entry, which may also be 9, 10 and 13.
@@ -38,9 +38,9 @@ pub fn in_charset(charset: Charset, b: u8) -> bool
     }
 }
 
-// Whether bytes that a call is lent are a text of such bytes, `least` to `most` of them.
-pub fn lent_ok(bytes: &[u8], least: usize, most: usize, charset: Charset) -> bool
-    ensures { λ r. ⌜ r ≡ lentOk least most (inCharset charset) (now (bytes .entry)) ⌝ }
+// Whether all of some bytes are a text of such bytes, `least` to `most` of them.
+pub fn text_fits(bytes: &[u8], least: usize, most: usize, charset: Charset) -> bool
+    ensures { λ r. ⌜ r ≡ sheets.textFits least most (inCharset charset) (now (bytes .entry)) ⌝ }
 {
     let mut ok = true;
     let mut i = 0;

@@ -18,30 +18,30 @@ use Rattle.machine.specs.Messages.{reportOf}
 use Rattle.machine.specs.Report.{byReading, concerns, due, dueAt, reported, pairAfter, pairSends}
 use Rattle.machine.proofs.StoreLaws.{filled-one, unwritten}
 
--- the visit of s₀ has come to p: the subscriptions before p are as they are left, those from p on as they were
-abbrev pub Come : State → Cause → ℕ → State → Type 0
-Come s₀ cause p s = s ≡ withPairs s₀ (tabulate (pairAfter (s₀ .sheet) s₀ cause) p ++ drop p (s₀ .subscriptions))
+-- the visit of s₀ has reached p: the subscriptions before p are as they are left, those from p on as they were
+abbrev pub Reached : State → Cause → ℕ → State → Type 0
+Reached s₀ cause p s = s ≡ withPairs s₀ (tabulate (pairAfter (s₀ .sheet) s₀ cause) p ++ drop p (s₀ .subscriptions))
 
-module _ (s₀ s : State) (cause : Cause) (p : ℕ) (come : Come s₀ cause p s) (below : p < length (s₀ .subscriptions)) where
+module _ (s₀ s : State) (cause : Cause) (p : ℕ) (reached : Reached s₀ cause p s) (below : p < length (s₀ .subscriptions)) where
   -- whether p reports
-  pub due-so : {is reading concerned : Bool} → reading ≡ byReading cause → concerned ≡ concerns cause (p % 32)
+  pub pair-due : {is reading concerned : Bool} → reading ≡ byReading cause → concerned ≡ concerns cause (p % 32)
       → is ≡ ((connected s (p / 32) && (ltb (p % 32) (s₀ .sheet .count) && concerned)) && due reading (s .clock) (sensorOf (s₀ .sheet) (p % 32)) (present s (p % 32)) (pairAt s p))
       → is ≡ dueAt (s₀ .sheet) s₀ cause (p / 32) (p % 32) (pairAt s₀ p)
   unfolding dueAt
-  due-so e f h = h ∙ rw (e, f, come, unwritten (pairAfter (s₀ .sheet) s₀ cause) (s₀ .subscriptions) p noSubscription below, and-assoc, and-assoc)
+  pair-due e f h = h ∙ rw (e, f, reached, unwritten (pairAfter (s₀ .sheet) s₀ cause) (s₀ .subscriptions) p noSubscription below, and-assoc, and-assoc)
 
   -- its subscription after that
-  pub left-so : {is : Bool} {x : Subscription} → is ≡ dueAt (s₀ .sheet) s₀ cause (p / 32) (p % 32) (pairAt s₀ p)
+  pub pair-left : {is : Bool} {x : Subscription} → is ≡ dueAt (s₀ .sheet) s₀ cause (p / 32) (p % 32) (pairAt s₀ p)
       → x ≡ cond is (reported (s .clock) (present s (p % 32)) (pairAt s p)) (pairAt s p) → x ≡ pairAfter (s₀ .sheet) s₀ cause p
   unfolding pairAfter
-  left-so e h = h ∙ rw (e, come, unwritten (pairAfter (s₀ .sheet) s₀ cause) (s₀ .subscriptions) p noSubscription below)
+  pair-left e h = h ∙ rw (e, reached, unwritten (pairAfter (s₀ .sheet) s₀ cause) (s₀ .subscriptions) p noSubscription below)
 
   -- what it sends
-  pub sent-so : {is : Bool} {a b : Output} → is ≡ dueAt (s₀ .sheet) s₀ cause (p / 32) (p % 32) (pairAt s₀ p)
+  pub pair-sent : {is : Bool} {a b : Output} → is ≡ dueAt (s₀ .sheet) s₀ cause (p / 32) (p % 32) (pairAt s₀ p)
       → Sent a (oneIf is (to (p / 32) (reportOf (s₀ .sheet) s (p % 32)))) b → Sent a (pairSends (s₀ .sheet) s₀ cause p) b
   unfolding pairSends
-  sent-so e h = as-sent h (rw (e, come))
+  pair-sent e h = as-sent h (rw (e, reached))
 
-  -- the subscription is stored, and the visit has come to the next
-  pub stored-so : {x : Subscription} → x ≡ pairAfter (s₀ .sheet) s₀ cause p → Come s₀ cause (p + 1) (withPairs s (set (s .subscriptions) p x))
-  stored-so e = rw (e, come) (ap (withPairs s₀) (filled-one (pairAfter (s₀ .sheet) s₀ cause) (s₀ .subscriptions) p below))
+  -- the subscription is stored, and the visit has reached the next
+  pub pair-stored : {x : Subscription} → x ≡ pairAfter (s₀ .sheet) s₀ cause p → Reached s₀ cause (p + 1) (withPairs s (set (s .subscriptions) p x))
+  pair-stored e = rw (e, reached) (ap (withPairs s₀) (filled-one (pairAfter (s₀ .sheet) s₀ cause) (s₀ .subscriptions) p below))

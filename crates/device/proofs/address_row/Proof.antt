@@ -5,16 +5,16 @@ use Rattle.machine.specs.Declined.{addressFits}
 use Rattle.device.proofs.address_row.Statement.{statement}
 use Rattle.device.proofs.address_row.Tie as tie
 
-lent-ok-requires : tie.Need-lent-ok-requires
-lent-ok-requires c κs = search needs
+text-fits-requires : tie.Need-text-fits-requires
+text-fits-requires c κs = search needs
 
 returns : tie.Need-returns
 unfolding addressFits
-returns c = rw (sym (c .before .lent-ok .ensures) ∙ c .if1 .taken)
+returns c = rw (sym (c .before .text-fits .ensures) ∙ c .if1 .taken)
 
 returns-2 : tie.Need-returns-2
 unfolding addressFits
-returns-2 c = rw (sym (c .before .lent-ok .ensures) ∙ c .if1 .left)
+returns-2 c = rw (sym (c .before .text-fits .ensures) ∙ c .if1 .left)
 
 pub address-row-spec : {M : Type 1} → statement M
-address-row-spec = tie.close (tie.spec lent-ok-requires returns returns-2)
+address-row-spec = tie.close (tie.spec text-fits-requires returns returns-2)

@@ -11,7 +11,7 @@ use Rattle.machine.specs.Messages.{versionConnect, protocolArgs, deviceArgs, cl
 use Rattle.machine.specs.Declined.{Action, Connect, actionDeclined, refusal}
 use Rattle.machine.specs.Machine.{connectSends, perform}
 use Rattle.device.proofs.AnswerLaws.{numberOf, declined-by, refused, performed}
-use Rattle.device.proofs.RowLaws.{client-own, connect-passes}
+use Rattle.device.proofs.RowLaws.{client-same, connect-passes}
 use Rattle.device.proofs.connect.Statement.{statement}
 use Rattle.device.proofs.connect.Tie as tie
 
@@ -25,7 +25,7 @@ start c = c .before .before .before .before .before .before .before .before
 number-is : (c : tie.After-rows) → numberOf (start c .args .state) (asked (start c)) (start c .args .out .now) ≡ c .rows .result
 unfolding actionDeclined
 number-is c =
-    declined-by (start c .args .state) (asked (start c)) (start c .args .out .now) (c .before .in-range .ensures) (c .before .before .client-rows .ensures ∙ client-own (start c .args .client) (c .before .before .before .before .is-connected .ensures) (c .before .before .before .address-row .ensures)) (c .rows .ensures)
+    declined-by (start c .args .state) (asked (start c)) (start c .args .out .now) (c .before .in-range .ensures) (c .before .before .client-rows .ensures ∙ client-same (start c .args .client) (c .before .before .before .before .is-connected .ensures) (c .before .before .before .address-row .ensures)) (c .rows .ensures)
 
 passes : (c : tie.Else1) → (start (c .before) .args .client < 8) × (length (start (c .before) .args .address .now) ≤ 48)
 passes c =

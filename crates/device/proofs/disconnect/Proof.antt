@@ -7,7 +7,7 @@ use Rattle.machine.specs.Declined.{Action, Disconnect, actionDeclined, refusal}
 use Rattle.machine.specs.Machine.{perform}
 use Rattle.machine.proofs.StepLaws.{client-fits}
 use Rattle.device.proofs.AnswerLaws.{numberOf, own-passes, declined-by, refused, performed}
-use Rattle.device.proofs.RowLaws.{client-own}
+use Rattle.device.proofs.RowLaws.{client-same}
 use Rattle.device.proofs.disconnect.Statement.{statement}
 use Rattle.device.proofs.disconnect.Tie as tie
 
@@ -21,7 +21,7 @@ start c = c .before .before .before .before .before .before
 number-is : (c : tie.After-rows) → numberOf (start c .args .state) (asked (start c)) (start c .args .out .now) ≡ c .rows .result
 unfolding actionDeclined
 number-is c =
-    declined-by (start c .args .state) (asked (start c)) (start c .args .out .now) (c .before .in-range .ensures) (c .before .before .client-rows .ensures ∙ client-own (start c .args .client) (ap not (c .before .before .before .is-connected .ensures)) refl) (c .rows .ensures)
+    declined-by (start c .args .state) (asked (start c)) (start c .args .out .now) (c .before .in-range .ensures) (c .before .before .client-rows .ensures ∙ client-same (start c .args .client) (ap not (c .before .before .before .is-connected .ensures)) refl) (c .rows .ensures)
 
 is-connected-requires : tie.Need-is-connected-requires
 is-connected-requires c κs = search needs

@@ -1,4 +1,4 @@
--- The invariant: the visit has come to p, what the subscriptions before it send was sent. The measure is the places that are left.
+-- The invariant: the visit has reached p, what the subscriptions before it send was sent. The measure is the places that are left.
 use Prim.Native.Nat.{_≤_, _<_, _-_}
 use native.Mathlib.Numerals.{add-one}
 use native.Mathlib.Omega.{arith}
@@ -12,12 +12,12 @@ use Rattle.machine.specs.Places.{tabulate, gather}
 use Rattle.machine.specs.Report.{pairAfter, pairSends}
 use Rattle.machine.proofs.ArrayLaws.{subscriptions-many}
 use Rattle.machine.proofs.StoreLaws.{filled-all}
-use Rattle.sampling.proofs.VisitLaws.{Come, due-so, left-so, sent-so, stored-so}
+use Rattle.sampling.proofs.VisitLaws.{Reached, pair-due, pair-left, pair-sent, pair-stored}
 use Rattle.sampling.proofs.visit.Statement.{statement}
 use Rattle.sampling.proofs.visit.Tie as tie
 
 abbrev Inv-loop : tie.InvT-loop
-Inv-loop cause out₀ s₀ sheet count reading at₀ p₀ out s at p = (p ≤ 256) × (Come s₀ cause p s × Sent (output out₀ 0) (gather (pairSends (s₀ .sheet) s₀ cause) p) (output out at))
+Inv-loop cause out₀ s₀ sheet count reading at₀ p₀ out s at p = (p ≤ 256) × (Reached s₀ cause p s × Sent (output out₀ 0) (gather (pairSends (s₀ .sheet) s₀ cause) p) (output out at))
 
 abbrev μ-loop : tie.MeasureT-loop
 μ-loop cause out₀ s₀ sheet count reading at₀ p₀ out s at p = 256 - p
@@ -90,14 +90,14 @@ loop-again c =
     let start = c .before .before .before .before .before .before .before .before .before .before .before .before .before .before .before .before .before .before in
     let s₀ = start .args .t1 in
     let cause = start .args .cause in
-    let come = turn .inv .1 .0 in
+    let reached = turn .inv .1 .0 in
     let test : turn .p < 256 = c .before .before .before .before .before .before .before .before .before .before .before .before .before .loop-test .taken in
     let below : turn .p < length (s₀ .subscriptions) = omega (arith, subscriptions-many (start .args .t1) _ (start .good .0)) in
-    let due = due-so s₀ (turn .s) cause (turn .p) come below (c .before .before .before .before .before .before .before .before .before .before .before .before .before .before .before .by-reading .ensures) (c .before .before .before .before .before .before .before .does-concern .ensures) (c .before .before .before .before .before .does-report .ensures) in (
+    let due = pair-due s₀ (turn .s) cause (turn .p) reached below (c .before .before .before .before .before .before .before .before .before .before .before .before .before .before .before .by-reading .ensures) (c .before .before .before .before .before .before .before .does-concern .ensures) (c .before .before .before .before .before .does-report .ensures) in (
       omega arith,
       (
-        stored-so s₀ (turn .s) cause (turn .p) come below (left-so s₀ (turn .s) cause (turn .p) come below due (c .after-turn .ensures)),
-        rw add-one (and (turn .inv .1 .1) (sent-so s₀ (turn .s) cause (turn .p) come below due (c .before .before .before .report-if .ensures))),
+        pair-stored s₀ (turn .s) cause (turn .p) reached below (pair-left s₀ (turn .s) cause (turn .p) reached below due (c .after-turn .ensures)),
+        rw add-one (and (turn .inv .1 .1) (pair-sent s₀ (turn .s) cause (turn .p) reached below due (c .before .before .before .report-if .ensures))),
       ),
     )
 

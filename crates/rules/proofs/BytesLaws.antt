@@ -1,4 +1,4 @@
--- The pass over lent bytes, each of a kind.
+-- The pass over bytes, each of a kind.
 use Prim.Native.Nat.{ℕ, _+_, _<_, _≤_}
 use native.Mathlib.Omega.{arith}
 use mathlib.Core.Path.{_≡_, refl}

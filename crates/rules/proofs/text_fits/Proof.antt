@@ -3,10 +3,11 @@ use Prim.Native.Nat.{_-_}
 use native.Mathlib.Omega.{arith}
 use lib.ListN.{length}
 use borrow.Author.Needs.{needs}
+use Rattle.machine.specs.Sheet.{textFits}
 use Rattle.rules.specs.Texts.{inCharset}
-use Rattle.rules.proofs.LentLaws.{Passing, passing, passing-on, passing-end}
-use Rattle.rules.proofs.lent_ok.Statement.{statement}
-use Rattle.rules.proofs.lent_ok.Tie as tie
+use Rattle.rules.proofs.BytesLaws.{Passing, passing, passing-on, passing-end}
+use Rattle.rules.proofs.text_fits.Statement.{statement}
+use Rattle.rules.proofs.text_fits.Tie as tie
 
 abbrev Inv-loop : tie.InvT-loop
 Inv-loop bytes least most charset ok₀ i₀ ok i = Passing (inCharset charset) bytes ok i
@@ -33,10 +34,11 @@ loop-again : tie.Need-loop-again Inv-loop μ-loop
 loop-again c = rw (c .in-charset .ensures) (passing-on (c .before .before .before .loop .inv) (omega arith))
 
 returns : tie.Need-returns Inv-loop μ-loop
+unfolding textFits
 returns c = rw (passing-end (c .before .loop .inv) (omega arith))
 
-pub lent-ok-spec : {M : Type 1} → statement M
-lent-ok-spec =
+pub text-fits-spec : {M : Type 1} → statement M
+text-fits-spec =
     tie.close
     (tie.spec
     Inv-loop
