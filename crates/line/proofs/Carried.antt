@@ -4,7 +4,7 @@ use mathlib.Core.Path.{_≡_, refl, sym, ap, _∙_}
 use mathlib.Core.Bool.{Bool, true, false, not, cond, _&&_}
 use mathlib.Core.List.{List, [], _∷_, _++_, map}
 use native.Mathlib.Omega.{arith}
-use lib.Seq.{take-nil, take-all, take-append-le}
+use lib.Seq.{take-nil, take-append-le}
 use lib.ListN.{length, take, drop, getD, List·getD-map, take-append-drop}
 use Rattle.output.proofs.RunLaws.{run-le, run-take}
 use Rattle.message.specs.Message.{Message}
@@ -15,7 +15,6 @@ use Rattle.line.specs.declared.Identifier.the-variants.{Bad, Is}
 use Rattle.line.specs.Line.{Parse, message, malformed, parse, unescape, wordByte, word, behind, nameOf, nameByte, kindByte, blank, idOf, afterName, nameOk, withId, readHead, lineSize, allValid}
 use Rattle.line.specs.Argument.{argument}
 use Rattle.line.specs.Answer.{answer, header}
-use Rattle.line.proofs.At.{to-end}
 
 -- m is the message of the line s
 pub record Carries (s : List ℕ) (m : Message) : Type 0 where
@@ -98,6 +97,3 @@ carried s h e = go (parse s) refl e
 pub no-name : (s : List ℕ) (n : ℕ) → length s ≡ 0 → s ≡ take n (drop 1 s)
 no-name [] n e = sym (take-nil n)
 no-name (b ∷ s) n e = absurd (omega arith)
-
-pub short-name : (s : List ℕ) (n : ℕ) → length (take (length s - 1) (drop 1 s)) ≤ n → take (length s - 1) (drop 1 s) ≡ take n (drop 1 s)
-short-name s n h = to-end s 1 ∙ sym (take-all n (drop 1 s) (omega (arith, ap length (to-end s 1))))

@@ -1,7 +1,7 @@
 //! Message lines: the bytes of a line to a message (document 01, "Message lines"). A line is cut at its spaces and tabs; each word
 //! behind the first is an argument, which is found again by its place.
 ghost use mathlib.Core.Path.{_≡_};
-ghost use mathlib.Core.List.{[], _++_};
+ghost use mathlib.Core.List.{[]};
 ghost use Prim.Native.Nat.{_+_, _-_, _≤_, _<_};
 ghost use lib.ListN.{length, getD, take, drop};
 ghost use Rattle.output.specs.Output.{output, Wrote};
@@ -484,18 +484,14 @@ pub fn argument_is(line: &[u8], k: usize, text: &[u8]) -> bool
     word_is(&line[a..e], text)
 }
 
-// Whether the name of a line's message, of `n` bytes, is `text`.
-pub fn name_is(line: &[u8], n: usize, text: &[u8]) -> bool
-    ensures { λ r. ⌜ r ≡ texts.same (take n (drop 1 (now (line .entry)))) (now (text .entry)) ⌝ }
+// The name of a line's message, of `n` bytes.
+pub fn name(line: &[u8], n: usize) -> &[u8]
+    ensures { λ r. ⌜ now r ≡ take n (drop 1 (now (line .entry))) ⌝ }
 {
     if line.len() == 0 {
-        return same(line, text);
+        return line;
     }
-    let t = &line[1..];
-    if t.len() <= n {
-        return same(t, text);
-    }
-    same(&t[..n], text)
+    output::prefix(&line[1..], n)
 }
 
 // The length of the first line in `s`: the bytes before the first byte 10, or all of them.

@@ -1,8 +1,8 @@
 //! Messages written as lines: identifiers and arguments with their escapes; and deliveries, which give a client a line.
 //! Each writer has the contract of the writers of crate output.
 ghost use mathlib.Core.Path.{_≡_};
-ghost use mathlib.Core.List.{List, [], _∷_, _++_};
-ghost use Prim.Native.Nat.{ℕ, _+_, min};
+ghost use mathlib.Core.List.{[], _∷_};
+ghost use Prim.Native.Nat.{_+_, min};
 ghost use lib.ListN.{take};
 ghost use Rattle.output.specs.Output.{output, Wrote};
 ghost use Rattle.output.specs.Number.{decimal, time, integer, float, difference, wholeDifference};
@@ -61,10 +61,7 @@ pub fn put_arg(out: &mut [u8], at: usize, s: &[u8]) -> usize
 pub fn put_arg_prefix(out: &mut [u8], at: usize, s: &[u8], n: usize) -> usize
     ensures { λ r. ⌜ Wrote (output (now (out .entry)) at) (arg (take n (now (s .entry)))) (output (now (out .exit)) r) ⌝ }
 {
-    if n < s.len() {
-        return put_arg(out, at, &s[..n]);
-    }
-    put_arg(out, at, s)
+    put_arg(out, at, output::prefix(s, n))
 }
 
 // The texts of numbers need no escapes.

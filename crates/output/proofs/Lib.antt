@@ -6,3 +6,4 @@ pub mod LengthLaws
 pub mod ReadLaws
 pub mod ReadBack
 pub mod Examples
+pub mod TableLaws

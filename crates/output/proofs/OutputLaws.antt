@@ -4,7 +4,7 @@ use native.Mathlib.Nat.{suc-add, add-zero, zero-add}
 use native.Mathlib.Numerals.{add-one}
 use native.Mathlib.Omega.{arith}
 use mathlib.Core.Path.{_≡_, refl, ap, sym, _∙_}
-use mathlib.Core.List.{List, [], _∷_, _++_, append-assoc}
+use mathlib.Core.List.{List, [], _∷_, _++_, append-assoc, append-nil}
 use lib.ListN.{length, take, drop, set, getD, length-set, length-append}
 use lib.Seq.{sets, sets-eq, take-suc, take-all, set-out}
 use Rattle.output.specs.Output.{Output, output, put, putAll, Wrote, laid}
@@ -25,6 +25,10 @@ blank = record { is = refl }
 -- the text by another name
 pub said : {p q : Output} {bs cs : List ℕ} → Wrote p bs q → bs ≡ cs → Wrote p cs q
 said {p} {q} e f = record { is = e .is ∙ ap (putAll p) f }
+
+-- a text with none behind it
+pub alone : {p q : Output} {bs : List ℕ} → Wrote p bs q → Wrote p (bs ++ []) q
+alone {bs = bs} e = said e (sym (append-nil bs))
 
 -- one more byte of a text s
 pub more : {p q r : Output} (s : List ℕ) (i : ℕ) → i < length s → Wrote p (take i s) q → Wrote q (getD s i 0 ∷ []) r → Wrote p (take (i + 1) s) r

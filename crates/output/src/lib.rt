@@ -1,8 +1,8 @@
 //! A lent output, and writers of bytes and numbers. A writer is lent the output and the place where it begins, and returns the
 //! place after what it wrote. Where the output ends, so does the text: nothing past the end is written.
 ghost use mathlib.Core.Path.{_≡_};
-ghost use mathlib.Core.List.{List, [], _∷_, _++_};
-ghost use Prim.Native.Nat.{ℕ, _+_, _/_, _%_, _<_, _≤_};
+ghost use mathlib.Core.List.{[], _∷_};
+ghost use Prim.Native.Nat.{_+_, _/_, _%_, _<_, _≤_};
 ghost use lib.ListN.{take};
 ghost use Rattle.output.specs.Text.{isDigit};
 ghost use Rattle.output.specs.Output.{output, Wrote};
@@ -34,13 +34,20 @@ pub fn put_bytes(out: &mut [u8], at: usize, s: &[u8]) -> usize
 }
 
 // The first n bytes of s, which may be an array of any size; all of s where it is shorter.
+pub fn prefix(s: &[u8], n: usize) -> &[u8]
+    ensures { λ r. ⌜ now r ≡ take n (now (s .entry)) ⌝ }
+{
+    if n < s.len() {
+        return &s[..n];
+    }
+    s
+}
+
+// These bytes, written at `at`.
 pub fn put_prefix(out: &mut [u8], at: usize, s: &[u8], n: usize) -> usize
     ensures { λ r. ⌜ Wrote (output (now (out .entry)) at) (take n (now (s .entry))) (output (now (out .exit)) r) ⌝ }
 {
-    if n < s.len() {
-        return put_bytes(out, at, &s[..n]);
-    }
-    put_bytes(out, at, s)
+    put_bytes(out, at, prefix(s, n))
 }
 
 // Whether a byte is a decimal digit.

@@ -1,13 +1,12 @@
 -- The last rows of the tables by number: the number is none of those above.
-use Prim.Native.Nat.{ℕ, zero, suc}
-use mathlib.Core.Path.{_≡_, refl}
+use Prim.Native.Nat.{ℕ}
+use mathlib.Core.Path.{_≡_}
 use mathlib.Core.List.{List}
 use borrow.Author.Tests.{ne-eqb}
-use Rattle.output.specs.Text.{text}
 use Rattle.output.specs.Number.{time}
 use Rattle.value.specs.declared.Limits.{Limits}
 use Rattle.value.specs.declared.Sample.{Sample}
-use Rattle.value.specs.Status.{statusOf, statusText}
+use Rattle.value.specs.Status.{statusOf}
 use Rattle.value.specs.Value.{valueText}
 
 pub status-other : (l : Limits) (s : Sample) → (s .kind ≡ 0 → ⊥) → (s .kind ≡ 1 → ⊥) → (s .kind ≡ 2 → ⊥) → (s .kind ≡ 3 → ⊥) → 6 ≡ statusOf l s
@@ -17,13 +16,3 @@ status-other l s a b c d = rw (ne-eqb _ _ a, ne-eqb _ _ b, ne-eqb _ _ c, ne-eqb 
 pub text-other : (t : ℕ) (option : List ℕ) (n : ℕ) → (t ≡ 1 → ⊥) → (t ≡ 2 → ⊥) → (t ≡ 3 → ⊥) → (t ≡ 4 → ⊥) → time n ≡ valueText t option n
 unfolding valueText
 text-other t option n a b c d = rw (ne-eqb _ _ a, ne-eqb _ _ b, ne-eqb _ _ c, ne-eqb _ _ d)
-
-pub inactive-word : (s : ℕ) → (s ≡ 0 → ⊥) → (s ≡ 1 → ⊥) → (s ≡ 2 → ⊥) → (s ≡ 3 → ⊥) → (s ≡ 4 → ⊥) → (s ≡ 5 → ⊥) → text "inactive" ≡ statusText s
-unfolding statusText
-inactive-word zero a b c d e f = absurd (a refl)
-inactive-word (suc zero) a b c d e f = absurd (b refl)
-inactive-word (suc (suc zero)) a b c d e f = absurd (c refl)
-inactive-word (suc (suc (suc zero))) a b c d e f = absurd (d refl)
-inactive-word (suc (suc (suc (suc zero)))) a b c d e f = absurd (e refl)
-inactive-word (suc (suc (suc (suc (suc zero))))) a b c d e f = absurd (f refl)
-inactive-word (suc (suc (suc (suc (suc (suc s)))))) a b c d e f = refl

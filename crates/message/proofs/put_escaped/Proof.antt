@@ -17,47 +17,36 @@ Inv-loop out₀ at s p₀ i₀ out p i = (i ≤ length s) × (length out ≡ len
 abbrev μ-loop : tie.MeasureT-loop
 μ-loop out₀ at s p₀ i₀ out p i = length s - i
 
--- src/lib.rt:131:9
 put-pair-requires : tie.Need-put-pair-requires Inv-loop μ-loop
 put-pair-requires c κs = search needs
 
--- src/lib.rt:131:9
 same-length : tie.Need-same-length Inv-loop μ-loop
 same-length c = search needs
 
--- src/lib.rt:131:9
 returns : tie.Need-returns Inv-loop μ-loop
 returns c = said (c .before .before .put-pair .ensures) (empty (c .before .before .before .before .before .before .before .args .s .now) (omega arith))
 
--- src/lib.rt:135:5
 loop-holds : tie.Need-loop-holds Inv-loop μ-loop
 loop-holds c = (search needs, refl, record { is = refl })
 
--- src/lib.rt:136:32
 shared-slice-read-put-escape : tie.Need-shared-slice-read-put-escape Inv-loop μ-loop
 shared-slice-read-put-escape c = omega arith
 
--- src/lib.rt:136:9
 put-escape-requires : tie.Need-put-escape-requires Inv-loop μ-loop
 put-escape-requires c κs = search needs
 
--- src/lib.rt:137:9
 add-i : tie.Need-add-i Inv-loop μ-loop
 add-i c = omega arith
 
--- src/lib.rt:135:5
 loop-less : tie.Need-loop-less Inv-loop μ-loop
 loop-less c = omega arith
 
--- src/lib.rt:135:5
 loop-again : tie.Need-loop-again Inv-loop μ-loop
 loop-again c = (omega arith, omega arith, search (more, arith))
 
--- src/lib.rt:127:1
 same-length-2 : tie.Need-same-length-2 Inv-loop μ-loop
 same-length-2 c = search needs
 
--- src/lib.rt:127:1
 returns-2 : tie.Need-returns-2 Inv-loop μ-loop
 returns-2 c =
     whole (c .before .before .before .before .before .args .s .now) (c .before .loop .i) (omega arith) (omega arith) (c .before .loop .inv .2)

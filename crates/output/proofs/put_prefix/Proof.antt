@@ -1,34 +1,16 @@
--- A part of s, or all of it.
+-- The bytes are those of `prefix`.
 use borrow.Author.Needs.{needs}
-use native.Mathlib.Omega.{arith}
-use mathlib.Core.Path.{sym}
-use lib.Seq.{take-all, length-take-le}
 use Rattle.output.proofs.OutputLaws.{same, said}
 use Rattle.output.proofs.put_prefix.Statement.{statement}
 use Rattle.output.proofs.put_prefix.Tie as tie
 
 returns : tie.Need-returns
-returns c = c .before .before .put-bytes .ensures
-
-returns-2 : tie.Need-returns-2
-returns-2 c =
+returns c =
     let c0 = c .before .before in
-    let s = c0 .before .before .before .before .before .args in
-    said (c0 .put-bytes2 .ensures) (sym (take-all (s .n) (s .s .now) (omega arith)))
+    said (c0 .put-bytes .ensures) (c0 .before .prefix .ensures)
 
 same-length : tie.Need-same-length
 same-length c = same (returns c)
 
-same-length-2 : tie.Need-same-length-2
-same-length-2 c = same (returns-2 c)
-
 pub put-prefix-spec : {M : Type 1} → statement M
-put-prefix-spec =
-    tie.close
-    (tie.spec (λ c. let s = c .before .before .before .before .before .args in sym (length-take-le (s .n) (s .s .now) (omega arith)))
-    (λ c κs. search needs)
-    same-length
-    returns
-    (λ c κs. search needs)
-    same-length-2
-    returns-2)
+put-prefix-spec = tie.close (tie.spec (λ c κs. search needs) (λ c κs. search needs) same-length returns)

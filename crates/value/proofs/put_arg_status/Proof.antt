@@ -1,56 +1,41 @@
 -- Each arm writes the word that `statusText` has for its number.
 use borrow.Author.Needs.{needs}
-use Prim.Native.Nat.{ℕ}
-use mathlib.Core.Path.{ap, sym}
-use Rattle.message.specs.Message.{arg}
+use lib.ListN.{List·getD-eq-default}
+use Rattle.output.specs.Text.{text}
+use Rattle.output.proofs.OutputLaws.{same}
+use Rattle.output.proofs.TableLaws.{past-all}
 use Rattle.value.specs.Status.{statusText}
-use Rattle.value.proofs.ValueLaws.{inactive-word}
-use Rattle.output.proofs.OutputLaws.{same, said}
 use Rattle.value.proofs.put_arg_status.Statement.{statement}
 use Rattle.value.proofs.put_arg_status.Tie as tie
 
 returns : tie.Need-returns
 unfolding statusText
-returns c =
-    let c0 = c .before .before in
-    said (c0 .put-arg .ensures) (ap (λ (x : ℕ). arg (statusText x)) (sym (c0 .before .before .before .match .keys1)))
+returns c = rw (c .before .before .before .before .before .match .keys1) (c .before .before .put-arg .ensures)
 
 returns-2 : tie.Need-returns-2
 unfolding statusText
-returns-2 c =
-    let c0 = c .before .before in
-    said (c0 .put-arg2 .ensures) (ap (λ (x : ℕ). arg (statusText x)) (sym (c0 .before .before .before .match .keys2)))
+returns-2 c = rw (c .before .before .before .before .before .match .keys2) (c .before .before .put-arg2 .ensures)
 
 returns-3 : tie.Need-returns-3
 unfolding statusText
-returns-3 c =
-    let c0 = c .before .before in
-    said (c0 .put-arg3 .ensures) (ap (λ (x : ℕ). arg (statusText x)) (sym (c0 .before .before .before .match .keys3)))
+returns-3 c = rw (c .before .before .before .before .before .match .keys3) (c .before .before .put-arg3 .ensures)
 
 returns-4 : tie.Need-returns-4
 unfolding statusText
-returns-4 c =
-    let c0 = c .before .before in
-    said (c0 .put-arg4 .ensures) (ap (λ (x : ℕ). arg (statusText x)) (sym (c0 .before .before .before .match .keys4)))
+returns-4 c = rw (c .before .before .before .before .before .match .keys4) (c .before .before .put-arg4 .ensures)
 
 returns-5 : tie.Need-returns-5
 unfolding statusText
-returns-5 c =
-    let c0 = c .before .before in
-    said (c0 .put-arg5 .ensures) (ap (λ (x : ℕ). arg (statusText x)) (sym (c0 .before .before .before .match .keys5)))
+returns-5 c = rw (c .before .before .before .before .before .match .keys5) (c .before .before .put-arg5 .ensures)
 
 returns-6 : tie.Need-returns-6
 unfolding statusText
-returns-6 c =
-    let c0 = c .before .before in
-    said (c0 .put-arg6 .ensures) (ap (λ (x : ℕ). arg (statusText x)) (sym (c0 .before .before .before .match .keys6)))
+returns-6 c = rw (c .before .before .before .before .before .match .keys6) (c .before .before .put-arg6 .ensures)
 
 returns-7 : tie.Need-returns-7
 unfolding statusText
 returns-7 c =
-    let c0 = c .before .before in
-    let n = c0 .before .before .before .match .rest in
-    said (c0 .put-arg7 .ensures) (ap arg (inactive-word _ (n .0 .0 .0 .0 .0 .1) (n .0 .0 .0 .0 .1) (n .0 .0 .0 .1) (n .0 .0 .1) (n .0 .1) (n .1)))
+    rw (List·getD-eq-default _ (text "inactive") (past-all 6 (c .before .before .before .before .before .before .before .args .status) (c .before .before .before .before .before .match .rest))) (c .before .before .put-arg7 .ensures)
 
 same-length : tie.Need-same-length
 same-length c = same (returns c)
