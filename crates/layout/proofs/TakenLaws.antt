@@ -1,6 +1,5 @@
 -- Bytes and texts that are read from a place on.
-use Prim.Native.Nat.{ℕ, zero, suc, _+_, _-_, _≤_, _<_}
-use native.Mathlib.Nat.{sub-zero, zero-sub, suc-sub-suc}
+use Prim.Native.Nat.{ℕ, _+_, _-_, _≤_, _<_}
 use native.Mathlib.Omega.{arith}
 use mathlib.Core.Path.{_≡_, ap, sym, _∙_, subst}
 use mathlib.Core.Bool.{cond}
@@ -17,6 +16,7 @@ use Rattle.machine.specs.Opening.{Taken, broken, taken, andThen, byteAt, bytesA
 use Rattle.layout.specs.declared.TextTaken.{TextTaken}
 use Rattle.layout.specs.declared.TextTaken.the-variants.{Span}
 use Rattle.layout.specs.Read.{textOf, Within}
+use Rattle.machine.proofs.StoreLaws.{drop-replicate}
 
 pub byte-there : (s : List ℕ) (a : ℕ) → a < length s → taken (getD s a 0) (drop (a + 1) s) ≡ byteAt (drop a s)
 byte-there s a h = rw (at s a h)
@@ -66,11 +66,6 @@ module _ {R A : Type 0} (f : R → Taken A) {r q : R} {x : Taken A} where
   told g e = sym e ∙ ap f g
 
 -- A text in an array of zeros.
-
-drop-replicate : (k n x : ℕ) → drop k (replicate n x) ≡ replicate (n - k) x
-drop-replicate zero n x = rw sub-zero
-drop-replicate (suc k) zero x = rw zero-sub
-drop-replicate (suc k) (suc n) x = rw suc-sub-suc (drop-replicate k n x)
 
 pub pads : (n : ℕ) {t ys : List ℕ} {r : ℕ} → Wrote (output (replicate n 0) 0) t (output ys r) → length t ≤ n → ys ≡ padded n t
 pads n {t} w h = from-start w (rw length-replicate h) .1 ∙ ap (λ (l : List ℕ). t ++ l) (drop-replicate (length t) n 0)

@@ -1,5 +1,8 @@
 pub mod TestLaws
 pub mod PlacesLaws
+pub mod AnyLaws
+pub mod FirstLaws
+pub mod FoundLaws
 pub mod StoreLaws
 pub mod ArrayLaws
 pub mod StateLaws
@@ -13,6 +16,7 @@ pub mod PairRange
 pub mod OpenedRange
 pub mod StateRange
 pub mod Keeps
+pub mod LineNumbers
 pub mod NeverOne
 pub mod KeptInRange
 pub mod ValueBack

@@ -15,7 +15,7 @@ use Rattle.machine.specs.declared.Sheet.{Sheet}
 use Rattle.machine.specs.Places.{any, has, twice}
 use Rattle.machine.specs.Sheet.{sensorOf, notOnSheet, placeOf}
 use Rattle.machine.specs.Range.{periodOk, ratesOk, differenceOk, strategyOk}
-use Rattle.machine.specs.Requests.{listed, byDifference, parameterCount, isBad, numberOf, differenceOf, parametersOf, strategyBy, shortestOverLongest, kindAsked, parametersAsked, strategyAsked, split, before, argument}
+use Rattle.machine.specs.Requests.{listed, byDifference, parameterCount, isBad, numberOf, differenceOf, parametersOf, strategyBy, shortestOverLongest, strategyMade, kindAsked, strategyAsked, split, before, argument}
 use Rattle.machine.specs.Declined.{settingDeclined, samplingDeclined}
 use Rattle.machine.proofs.TestLaws.{and-in, and-false, or-false, passed, cond-false, eqb-refl}
 use Rattle.machine.proofs.SheetLaws.{Sensors}
@@ -91,26 +91,27 @@ listed-below sheet m e j h = leb-false (sheet .count) j (none-has (notOnSheet sh
 record Setting (sheet : Sheet) (m : Message) : Type 0 where
   strategy-known : kindAsked m < 7
   measured : byDifference (kindAsked m) && any (λ j. leb 3 (sensorOf sheet j .kind)) (listed sheet m) ≡ false
-  good : any isBad (parametersAsked sheet m) ≡ false
+  good : any isBad (parametersOf sheet (listed sheet m) (kindAsked m) (drop 2 (m .args))) ≡ false
   in-order : shortestOverLongest (strategyAsked sheet m) ≡ false
 
 setting-passed : (sheet : Sheet) (m : Message) → samplingDeclined sheet m ≡ 0 → eqb (length (m .args)) 1 ≡ false → Setting sheet m
-unfolding samplingDeclined settingDeclined
+unfolding samplingDeclined settingDeclined strategyAsked
 setting-passed sheet m e q =
     let a = passed (any (notOnSheet sheet) (listed sheet m)) 16 _ (omega arith) e in
     let b = passed (twice (listed sheet m)) 21 _ (omega arith) (a .1) in
-    let c : settingDeclined sheet m ≡ 0 = sym (cond-false (eqb (length (m .args)) 1) (cond (ltb 1 (length (listed sheet m))) 15 0) (settingDeclined sheet m) q) ∙ b .1 in
+    let own = settingDeclined sheet (listed sheet m) (kindAsked m) (length (m .args)) (drop 2 (m .args)) in
+    let c : own ≡ 0 = sym (cond-false (eqb (length (m .args)) 1) (cond (ltb 1 (length (listed sheet m))) 15 0) own q) ∙ b .1 in
     let d = passed (leb 7 (kindAsked m)) 17 _ (omega arith) c in
     let f = passed (not (eqb (length (m .args)) (2 + parameterCount (kindAsked m)))) 15 _ (omega arith) (d .1) in
     let g = passed (byDifference (kindAsked m) && any (λ j. leb 3 (sensorOf sheet j .kind)) (listed sheet m)) 18 _ (omega arith) (f .1) in
-    let h = passed (any isBad (parametersAsked sheet m)) 19 _ (omega arith) (g .1) in
+    let h = passed (any isBad (parametersOf sheet (listed sheet m) (kindAsked m) (drop 2 (m .args)))) 19 _ (omega arith) (g .1) in
     let i = passed (shortestOverLongest (strategyAsked sheet m)) 20 0 (omega arith) (h .1) in
     record { strategy-known = leb-false 7 (kindAsked m) (d .0); measured = g .0; good = h .0; in-order = i .0 }
 
 -- the strategy suits a listed sensor
 pub setting-suits : (sheet : Sheet) → Sensors sheet → (m : Message) → samplingDeclined sheet m ≡ 0 → eqb (length (m .args)) 1 ≡ false
     → (j : ℕ) → has j (listed sheet m) ≡ true → strategyOk (sensorOf sheet j .kind) (strategyAsked sheet m) ≡ true
-unfolding strategyAsked
+unfolding strategyAsked strategyMade
 setting-suits sheet r m e q j h =
     strategy-suits sheet (listed sheet m) (drop 2 (m .args)) j h (kindAsked m) (p .strategy-known) (r .sensor-is j (listed-below sheet m e j h) .kind-least)
     (λ t. leb-false 3 (sensorOf sheet j .kind) (none-has (λ j. leb 3 (sensorOf sheet j .kind)) (listed sheet m) j (and-false (byDifference (kindAsked m)) _ (p .measured) t) h))

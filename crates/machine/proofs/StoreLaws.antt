@@ -1,12 +1,13 @@
 -- A list that is written from its start on: the new elements, and then the old ones that are left; and a store at one place.
-use Prim.Native.Nat.{ℕ, suc, _+_, _<_}
+use Prim.Native.Nat.{ℕ, zero, suc, _+_, _-_, _<_}
+use native.Mathlib.Nat.{sub-zero, zero-sub, suc-sub-suc}
 use native.Mathlib.Omega.{arith}
 use native.Mathlib.Numerals.{add-one}
 use mathlib.Core.Path.{_≡_, refl, sym, _∙_, ap}
 use mathlib.Core.Bool.{Bool, true, false, cond}
 use mathlib.Core.List.{List, [], _∷_, _++_, append-assoc, append-nil}
 use lib.Dec.{eqb}
-use lib.ListN.{length, getD, set, drop, length-set, drop-of-length-le}
+use lib.ListN.{length, getD, set, drop, replicate, length-set, drop-of-length-le}
 use lib.Seq.{drop-cons, set-at, getD-set-same, getD-set-other, getD-append-seam, ext-getD}
 use borrow.Author.Tests.{eqb-true, eqb-false}
 use Rattle.machine.specs.Places.{tabulate}
@@ -44,3 +45,9 @@ module _ {A : Type 0} where
       go : (k : ℕ) (b : Bool) → eqb k i ≡ b → getD (set l i x) k d ≡ cond b x (getD l k d)
       go k true e = rw (eqb-true k i e) (getD-set-same l i x d h)
       go k false e = getD-set-other l i k x d (eqb-false k i e)
+
+-- what is left of an array of equal elements
+pub drop-replicate : (k n x : ℕ) → drop k (replicate n x) ≡ replicate (n - k) x
+drop-replicate zero n x = rw sub-zero
+drop-replicate (suc k) zero x = rw zero-sub
+drop-replicate (suc k) (suc n) x = rw suc-sub-suc (drop-replicate k n x)

@@ -55,6 +55,10 @@ module _ {A : Type 0} where
   cond-cases P true x y h k = h refl
   cond-cases P false x y h k = k refl
 
+  pub cond-not : (b : Bool) (x y : A) → cond (not b) x y ≡ cond b y x
+  cond-not true x y = refl
+  cond-not false x y = refl
+
   pub cond-same : (b : Bool) (x : A) → cond b x x ≡ x
   cond-same true x = refl
   cond-same false x = refl

@@ -4,7 +4,7 @@ use mathlib.Core.Bool.{Bool, cond, not, _&&_, _||_}
 use mathlib.Core.List.{List, [], _∷_}
 use mathlib.Core.Option.{Option, none, some}
 use lib.Dec.{eqb, leb, ltb}
-use lib.ListN.{length}
+use lib.ListN.{length, drop}
 use Rattle.output.specs.Read.{inTime}
 use Rattle.message.specs.Message.{Message}
 use Rattle.message.specs.Delivery.{Delivery, to}
@@ -19,7 +19,7 @@ use Rattle.machine.specs.Places.{any, twice}
 use Rattle.machine.specs.Sheet.{sensorOf, notOnSheet, graphic, printable, nameByte, textFits}
 use Rattle.machine.specs.State.{connected}
 use Rattle.machine.specs.Range.{inRange}
-use Rattle.machine.specs.Requests.{Asked, Nothing, NotMessage, Reply, Unknown, Asks, asked, argument, askedPlaces, requestNamed, levelOf, listed, kindAsked, parameterCount, byDifference, isBad, parametersAsked, strategyAsked, shortestOverLongest}
+use Rattle.machine.specs.Requests.{Asked, Nothing, NotMessage, Reply, Unknown, Asks, asked, argument, askedPlaces, requestNamed, levelOf, listed, kindAsked, parameterCount, byDifference, isBad, parametersOf, strategyMade, shortestOverLongest}
 use Rattle.machine.specs.Messages.{refusalEntry, refusalReply}
 
 -- What is asked of the unit: the calls but opening, with their arguments.
@@ -86,14 +86,14 @@ abbrev pub helpDeclined : Option Request → ℕ
 helpDeclined none = 23
 helpDeclined (some r) = 0
 
--- a list with a strategy: "17, 15 (parameters), 18, 19, 20"
-unfoldable pub settingDeclined : Sheet → Message → ℕ
-settingDeclined sheet m =
-    cond (leb 7 (kindAsked m)) 17
-    (cond (not (eqb (length (m .args)) (2 + parameterCount (kindAsked m)))) 15
-    (cond (byDifference (kindAsked m) && any (λ j. leb 3 (sensorOf sheet j .kind)) (listed sheet m)) 18
-    (cond (any isBad (parametersAsked sheet m)) 19
-    (cond (shortestOverLongest (strategyAsked sheet m)) 20
+-- a list with a strategy: "17, 15 (parameters), 18, 19, 20"; of the places js, with n arguments, ts behind the strategy's word
+unfoldable pub settingDeclined : Sheet → List ℕ → ℕ → ℕ → List (List ℕ) → ℕ
+settingDeclined sheet js k n ts =
+    cond (leb 7 k) 17
+    (cond (not (eqb n (2 + parameterCount k))) 15
+    (cond (byDifference k && any (λ j. leb 3 (sensorOf sheet j .kind)) js) 18
+    (cond (any isBad (parametersOf sheet js k ts)) 19
+    (cond (shortestOverLongest (strategyMade sheet js k ts)) 20
     0))))
 
 -- "this order for sampling: 15 (none), 16, 21, 15 (list without strategy), .." (the first of these is that of every request)
@@ -102,7 +102,7 @@ samplingDeclined sheet m =
     cond (any (notOnSheet sheet) (listed sheet m)) 16
     (cond (twice (listed sheet m)) 21
     (cond (eqb (length (m .args)) 1) (cond (ltb 1 (length (listed sheet m))) 15 0)
-    (settingDeclined sheet m)))
+    (settingDeclined sheet (listed sheet m) (kindAsked m) (length (m .args)) (drop 2 (m .args)))))
 
 -- what a request's arguments are declined for
 unfoldable pub argumentsDeclined : Sheet → Request → Message → ℕ

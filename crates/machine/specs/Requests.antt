@@ -174,6 +174,10 @@ strategyBy k ns =
     (cond (eqb k 6) (DifferentialRate (getD ns 0 0) (getD ns 1 0) (getD ns 2 0))
     None)))))
 
+-- a strategy with the numbers of its parameters' texts, for the sensors at places
+unfoldable pub strategyMade : Sheet → List ℕ → ℕ → List (List ℕ) → Strategy
+strategyMade sheet js k ts = strategyBy k (map numberOf (parametersOf sheet js k ts))
+
 -- shortest over longest
 unfoldable pub shortestOverLongest : Strategy → Bool
 shortestOverLongest None = false
@@ -188,13 +192,9 @@ shortestOverLongest (DifferentialRate d a b) = ltb b a
 abbrev pub kindAsked : Message → ℕ
 kindAsked m = strategyNamed (argument m 1)
 
--- the parameters that it gives
-abbrev pub parametersAsked : Sheet → Message → List Parameter
-parametersAsked sheet m = parametersOf sheet (listed sheet m) (kindAsked m) (drop 2 (m .args))
-
--- the strategy with its parameters as numbers
+-- the strategy that it gives
 unfoldable pub strategyAsked : Sheet → Message → Strategy
-strategyAsked sheet m = strategyBy (kindAsked m) (map numberOf (parametersAsked sheet m))
+strategyAsked sheet m = strategyMade sheet (listed sheet m) (kindAsked m) (drop 2 (m .args))
 
 -- a pair with a strategy set: "a report replaces the last, and setting none keeps it"
 unfoldable pub sampled : ℕ → Sample → Strategy → Subscription → Subscription

@@ -3,6 +3,7 @@ use value::Limits;
 use value::Sample;
 ghost use mathlib.Core.Path.{_≡_};
 ghost use Rattle.machine.specs.State.{startLevel, noSubscription, blankClient};
+ghost use Rattle.machine.specs.Range.{isNone};
 
 // An option of a discrete sensor: the first `len` bytes of `text`.
 pub struct Choice {
@@ -138,5 +139,20 @@ pub fn blank_client() -> Client
         connected: false,
         address: [0; 48],
         address_len: 0,
+    }
+}
+
+// Whether a strategy is none.
+pub fn is_none(strategy: Strategy) -> bool
+    ensures { λ r. ⌜ r ≡ isNone strategy ⌝ }
+{
+    match strategy {
+        Strategy::None => true,
+        Strategy::Auto => false,
+        Strategy::Period(_) => false,
+        Strategy::Event => false,
+        Strategy::Differential(_) => false,
+        Strategy::EventRate(_, _) => false,
+        Strategy::DifferentialRate(_, _, _) => false,
     }
 }

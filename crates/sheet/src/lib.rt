@@ -255,26 +255,12 @@ fn strategy_ok(kind: u8, strategy: Strategy) -> bool
     }
 }
 
-fn is_none(strategy: Strategy) -> bool
-    ensures { λ r. ⌜ r ≡ ranges.isNone strategy ⌝ }
-{
-    match strategy {
-        Strategy::None => true,
-        Strategy::Auto => false,
-        Strategy::Period(_) => false,
-        Strategy::Event => false,
-        Strategy::Differential(_) => false,
-        Strategy::EventRate(_, _) => false,
-        Strategy::DifferentialRate(_, _, _) => false,
-    }
-}
-
 // A subscription without a report.
 fn pair_none(p: Subscription) -> bool
     ensures { λ r. ⌜ r ≡ ranges.pairNone p ⌝ }
 {
     let strategy = p.strategy;
-    let none = is_none(strategy);
+    let none = machine::is_none(strategy);
     let empty = sample_none(p.sample);
     !p.reported & (none & (empty & (p.time == 0)))
 }

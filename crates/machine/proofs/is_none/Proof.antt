@@ -1,8 +1,8 @@
--- Each arm is a row of `isNone`.
+-- By the strategy.
 use borrow.Author.Needs.{needs}
 use Rattle.machine.specs.Range.{isNone}
-use Rattle.sheet.proofs.is_none.Statement.{statement}
-use Rattle.sheet.proofs.is_none.Tie as tie
+use Rattle.machine.proofs.is_none.Statement.{statement}
+use Rattle.machine.proofs.is_none.Tie as tie
 
 enum-told : tie.Need-enum-told
 enum-told c = search needs

@@ -1,0 +1,77 @@
+-- The numbers that decline a line: 12 and 13 where it is no request, 14 to 23 where it is one.
+use Prim.Native.Nat.{ℕ, _+_, _≤_}
+use native.Mathlib.Omega.{arith}
+use mathlib.Core.Path.{_≡_, refl, ap, sym, _∙_}
+use mathlib.Core.Bool.{true, not, _&&_, _||_}
+use mathlib.Core.Option.{Option, none, some}
+use lib.Dec.{eqb, leb, ltb}
+use lib.ListN.{length, drop}
+use borrow.Author.Tests.{leb-true, ne-eqb}
+use Rattle.message.specs.Message.{Message}
+use Rattle.machine.specs.declared.Sheet.{Sheet}
+use Rattle.machine.specs.declared.Request.{Request}
+use Rattle.machine.specs.declared.Request.the-variants.{ClientList, Halt, Help, LogLevel, Restart, SensorList, SensorSampling, SensorValue, VersionList, Watchdog}
+use Rattle.machine.specs.Places.{any, twice}
+use Rattle.machine.specs.Sheet.{sensorOf, notOnSheet}
+use Rattle.machine.specs.Requests.{Asked, Nothing, NotMessage, Reply, Unknown, Asks, argument, askedPlaces, requestNamed, levelOf, listed, kindAsked, parameterCount, byDifference, isBad, parametersOf, strategyMade, shortestOverLongest}
+use Rattle.machine.specs.Declined.{countFits, helpDeclined, settingDeclined, samplingDeclined, argumentsDeclined, lineDeclined}
+use Rattle.machine.proofs.TestLaws.{cond-either, and-true}
+
+-- 0, or a number from `least` to 23
+abbrev Within : ℕ → ℕ → Type 0
+Within least n = (eqb n 0 || (leb least n && leb n 23)) ≡ true
+
+abbrev OfRequest : ℕ → Type 0
+OfRequest n = Within 14 n
+
+help-row : (o : Option Request) → OfRequest (helpDeclined o)
+help-row none = refl
+help-row (some r) = refl
+
+sampling-row : (sheet : Sheet) (m : Message) → OfRequest (samplingDeclined sheet m)
+unfolding samplingDeclined settingDeclined
+sampling-row sheet m =
+    cond-either OfRequest (any (notOnSheet sheet) (listed sheet m)) 16 _ refl
+    (cond-either OfRequest (twice (listed sheet m)) 21 _ refl
+    (cond-either OfRequest (eqb (length (m .args)) 1) _ (settingDeclined sheet (listed sheet m) (kindAsked m) (length (m .args)) (drop 2 (m .args)))
+    (cond-either OfRequest (ltb 1 (length (listed sheet m))) 15 0 refl refl)
+    (cond-either OfRequest (leb 7 (kindAsked m)) 17 _ refl
+    (cond-either OfRequest (not (eqb (length (m .args)) (2 + parameterCount (kindAsked m)))) 15 _ refl
+    (cond-either OfRequest (byDifference (kindAsked m) && any (λ j. leb 3 (sensorOf sheet j .kind)) (listed sheet m)) 18 _ refl
+    (cond-either OfRequest (any isBad (parametersOf sheet (listed sheet m) (kindAsked m) (drop 2 (m .args)))) 19 _ refl
+    (cond-either OfRequest (shortestOverLongest (strategyMade sheet (listed sheet m) (kindAsked m) (drop 2 (m .args)))) 20 0 refl refl)))))))
+
+arguments-row : (sheet : Sheet) (r : Request) (m : Message) → OfRequest (argumentsDeclined sheet r m)
+unfolding argumentsDeclined
+arguments-row sheet ClientList m = refl
+arguments-row sheet Halt m = refl
+arguments-row sheet Help m = cond-either OfRequest (eqb (length (m .args)) 0) 0 (helpDeclined (requestNamed (argument m 0))) refl (help-row (requestNamed (argument m 0)))
+arguments-row sheet LogLevel m = cond-either OfRequest (eqb (length (m .args)) 0) 0 _ refl (cond-either OfRequest (leb 8 (levelOf (argument m 0))) 22 0 refl refl)
+arguments-row sheet Restart m = refl
+arguments-row sheet SensorList m = cond-either OfRequest (any (notOnSheet sheet) (askedPlaces sheet m)) 16 0 refl refl
+arguments-row sheet SensorSampling m = sampling-row sheet m
+arguments-row sheet SensorValue m = cond-either OfRequest (any (notOnSheet sheet) (askedPlaces sheet m)) 16 0 refl refl
+arguments-row sheet VersionList m = refl
+arguments-row sheet Watchdog m = refl
+
+request-row : (sheet : Sheet) (r : Request) (m : Message) → OfRequest (lineDeclined sheet (Asks r m))
+unfolding lineDeclined
+request-row sheet r m = cond-either OfRequest (not (countFits r (length (m .args)))) 15 (argumentsDeclined sheet r m) refl (arguments-row sheet r m)
+
+bounds : (least n : ℕ) → Within least n → (n ≡ 0 → ⊥) → (least ≤ n) × (n ≤ 23)
+bounds least n h z =
+    let q = and-true (leb least n) (leb n 23) (sym (ap (λ b. b || (leb least n && leb n 23)) (ne-eqb n 0 z)) ∙ h) in
+    (leb-true least n (q .0), leb-true n 23 (q .1))
+
+-- a request that is declined
+pub request-number : (sheet : Sheet) (r : Request) (m : Message) → (lineDeclined sheet (Asks r m) ≡ 0 → ⊥) → (14 ≤ lineDeclined sheet (Asks r m)) × (lineDeclined sheet (Asks r m) ≤ 23)
+request-number sheet r m h = bounds 14 (lineDeclined sheet (Asks r m)) (request-row sheet r m) h
+
+-- a line that is declined
+pub line-number : (sheet : Sheet) (a : Asked) → (lineDeclined sheet a ≡ 0 → ⊥) → 12 ≤ lineDeclined sheet a
+unfolding lineDeclined
+line-number sheet Nothing h = absurd (h refl)
+line-number sheet NotMessage h = omega arith
+line-number sheet Reply h = omega arith
+line-number sheet (Unknown m) h = omega arith
+line-number sheet (Asks r m) h = omega (arith, request-number sheet r m h)
