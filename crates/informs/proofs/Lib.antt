@@ -1,2 +1,1 @@
-pub mod LevelLaws
 pub mod ServedLaws

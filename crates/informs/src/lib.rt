@@ -13,6 +13,7 @@ ghost use Rattle.message.specs.Delivery.{to, Sent};
 ghost use Rattle.machine.specs.Places.{oneIf};
 ghost use Rattle.machine.specs.State.{noClient};
 ghost use Rattle.machine.specs.Messages as messages;
+ghost use Rattle.machine.specs.Requests.{levelOf};
 
 // The line of an inform on the device's API and build, from the start of out: its length.
 fn device_line(out: &mut [u8], name: &[u8], id: u64, sheet: Sheet) -> usize
@@ -83,6 +84,37 @@ pub fn put_arg_level(out: &mut [u8], at: usize, level: u8) -> usize
         6 => message::put_arg(out, at, b"trace"),
         _ => message::put_arg(out, at, b"all"),
     }
+}
+
+// The level of a word; 8 where no level has it.
+pub fn level_named(word: &[u8]) -> u8
+    ensures { λ r. ⌜ r ≡ levelOf (now (word .entry)) ⌝ }
+{
+    if line::same(b"off", word) {
+        return 0;
+    }
+    if line::same(b"fatal", word) {
+        return 1;
+    }
+    if line::same(b"error", word) {
+        return 2;
+    }
+    if line::same(b"warn", word) {
+        return 3;
+    }
+    if line::same(b"info", word) {
+        return 4;
+    }
+    if line::same(b"debug", word) {
+        return 5;
+    }
+    if line::same(b"trace", word) {
+        return 6;
+    }
+    if line::same(b"all", word) {
+        return 7;
+    }
+    8
 }
 
 // The line of a log entry, from the start of out: its length.

@@ -19,6 +19,7 @@ ghost use Rattle.machine.specs.Places.{oneIf};
 ghost use Rattle.machine.specs.Sheet.{nameOf, optionOf};
 ghost use Rattle.machine.specs.Messages as messages;
 ghost use Rattle.machine.specs.Report as reports;
+ghost use Rattle.machine.specs.Requests.{sampled};
 
 // Whether two samples of a sensor have different statuses.
 fn status_changed(sensor: Sensor, last: Sample, present: Sample) -> bool
@@ -97,7 +98,7 @@ fn is_due(reading: bool, clock: u64, sensor: Sensor, present: Sample, pair: Subs
 }
 
 // A sensor's name as an argument.
-fn put_arg_name(out: &mut [u8], at: usize, sensor: Sensor) -> usize
+pub fn put_arg_name(out: &mut [u8], at: usize, sensor: Sensor) -> usize
     ensures { λ r. ⌜ Wrote (output (now (out .entry)) at) (arg (nameOf sensor)) (output (now (out .exit)) r) ⌝ }
 {
     let name = sensor.name;
@@ -105,7 +106,7 @@ fn put_arg_name(out: &mut [u8], at: usize, sensor: Sensor) -> usize
 }
 
 // The option at a place of a sensor's list; past the list, an empty one.
-fn option_at(sensor: Sensor, place: u64) -> Choice
+pub fn option_at(sensor: Sensor, place: u64) -> Choice
     ensures { λ r. ⌜ take (r .len) (r .text) ≡ optionOf sensor place ⌝ }
 {
     if place < 8 {
@@ -119,7 +120,7 @@ fn option_at(sensor: Sensor, place: u64) -> Choice
 }
 
 // A stored number of a sensor as an argument.
-fn put_arg_number(out: &mut [u8], at: usize, sensor: Sensor, number: u64) -> usize
+pub fn put_arg_number(out: &mut [u8], at: usize, sensor: Sensor, number: u64) -> usize
     ensures { λ r. ⌜ Wrote (output (now (out .entry)) at) (arg (messages.valueFor sensor number)) (output (now (out .exit)) r) ⌝ }
 {
     let option = option_at(sensor, number);
@@ -248,6 +249,32 @@ fn after_turn(due: bool, clock: u64, present: Sample, pair: Subscription) -> Sub
     }
     Subscription {
         strategy: strategy,
+        reported: true,
+        sample: present,
+        time: clock,
+    }
+}
+
+// A subscription with a chosen strategy: none keeps the last report, any other reports at once.
+pub fn with_strategy(
+    clock: u64,
+    present: Sample,
+    chosen: Strategy,
+    pair: Subscription,
+) -> Subscription
+    ensures { λ r. ⌜ r ≡ sampled clock present chosen pair ⌝ }
+{
+    let last = pair.sample;
+    if machine::is_none(chosen) {
+        return Subscription {
+            strategy: Strategy::None,
+            reported: pair.reported,
+            sample: last,
+            time: pair.time,
+        };
+    }
+    Subscription {
+        strategy: chosen,
         reported: true,
         sample: present,
         time: clock,

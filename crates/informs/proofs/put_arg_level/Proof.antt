@@ -1,62 +1,45 @@
 -- Each arm writes the word that `levelText` has for its number.
 use borrow.Author.Needs.{needs}
-use Prim.Native.Nat.{ℕ}
-use mathlib.Core.Path.{ap, sym}
-use Rattle.message.specs.Message.{arg}
+use lib.ListN.{List·getD-eq-default}
+use Rattle.output.specs.Text.{text}
+use Rattle.output.proofs.OutputLaws.{same}
+use Rattle.output.proofs.TableLaws.{past-all}
 use Rattle.machine.specs.Messages.{levelText}
-use Rattle.informs.proofs.LevelLaws.{last-word}
-use Rattle.output.proofs.OutputLaws.{same, said}
 use Rattle.informs.proofs.put_arg_level.Statement.{statement}
 use Rattle.informs.proofs.put_arg_level.Tie as tie
 
 returns : tie.Need-returns
 unfolding levelText
-returns c =
-    let c0 = c .before .before in
-    said (c0 .put-arg .ensures) (ap (λ (x : ℕ). arg (levelText x)) (sym (c0 .before .before .before .match .keys1)))
+returns c = rw (c .before .before .before .before .before .match .keys1) (c .before .before .put-arg .ensures)
 
 returns-2 : tie.Need-returns-2
 unfolding levelText
-returns-2 c =
-    let c0 = c .before .before in
-    said (c0 .put-arg2 .ensures) (ap (λ (x : ℕ). arg (levelText x)) (sym (c0 .before .before .before .match .keys2)))
+returns-2 c = rw (c .before .before .before .before .before .match .keys2) (c .before .before .put-arg2 .ensures)
 
 returns-3 : tie.Need-returns-3
 unfolding levelText
-returns-3 c =
-    let c0 = c .before .before in
-    said (c0 .put-arg3 .ensures) (ap (λ (x : ℕ). arg (levelText x)) (sym (c0 .before .before .before .match .keys3)))
+returns-3 c = rw (c .before .before .before .before .before .match .keys3) (c .before .before .put-arg3 .ensures)
 
 returns-4 : tie.Need-returns-4
 unfolding levelText
-returns-4 c =
-    let c0 = c .before .before in
-    said (c0 .put-arg4 .ensures) (ap (λ (x : ℕ). arg (levelText x)) (sym (c0 .before .before .before .match .keys4)))
+returns-4 c = rw (c .before .before .before .before .before .match .keys4) (c .before .before .put-arg4 .ensures)
 
 returns-5 : tie.Need-returns-5
 unfolding levelText
-returns-5 c =
-    let c0 = c .before .before in
-    said (c0 .put-arg5 .ensures) (ap (λ (x : ℕ). arg (levelText x)) (sym (c0 .before .before .before .match .keys5)))
+returns-5 c = rw (c .before .before .before .before .before .match .keys5) (c .before .before .put-arg5 .ensures)
 
 returns-6 : tie.Need-returns-6
 unfolding levelText
-returns-6 c =
-    let c0 = c .before .before in
-    said (c0 .put-arg6 .ensures) (ap (λ (x : ℕ). arg (levelText x)) (sym (c0 .before .before .before .match .keys6)))
+returns-6 c = rw (c .before .before .before .before .before .match .keys6) (c .before .before .put-arg6 .ensures)
 
 returns-7 : tie.Need-returns-7
 unfolding levelText
-returns-7 c =
-    let c0 = c .before .before in
-    said (c0 .put-arg7 .ensures) (ap (λ (x : ℕ). arg (levelText x)) (sym (c0 .before .before .before .match .keys7)))
+returns-7 c = rw (c .before .before .before .before .before .match .keys7) (c .before .before .put-arg7 .ensures)
 
 returns-8 : tie.Need-returns-8
 unfolding levelText
 returns-8 c =
-    let c0 = c .before .before in
-    let n = c0 .before .before .before .match .rest in
-    said (c0 .put-arg8 .ensures) (ap arg (last-word _ (n .0 .0 .0 .0 .0 .0 .1) (n .0 .0 .0 .0 .0 .1) (n .0 .0 .0 .0 .1) (n .0 .0 .0 .1) (n .0 .0 .1) (n .0 .1) (n .1)))
+    rw (List·getD-eq-default _ (text "all") (past-all 7 (c .before .before .before .before .before .before .before .args .level) (c .before .before .before .before .before .match .rest))) (c .before .before .put-arg8 .ensures)
 
 same-length : tie.Need-same-length
 same-length c = same (returns c)
