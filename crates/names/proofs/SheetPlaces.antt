@@ -1,0 +1,122 @@
+-- On a sheet in range, of at most 32 sensors, the places that this crate lists are those of the definitions of the requests.
+use Prim.Native.Nat.{ℕ, _≤_, _<_}
+use native.Mathlib.Omega.{arith}
+use mathlib.Core.Path.{_≡_, refl, ap, sym, _∙_}
+use mathlib.Core.Bool.{Bool, true, false, cond}
+use mathlib.Core.List.{List, [], _∷_, map}
+use lib.Dec.{leb}
+use lib.ListN.{length}
+use borrow.Author.Tests.{leb-false}
+use Rattle.output.specs.Text.{same}
+use Rattle.machine.specs.declared.Sheet.{Sheet}
+use Rattle.machine.specs.Places.{any, firstBelow, twice, Each}
+use Rattle.machine.specs.Sheet.{sensorOf, nameOf, placeOf, notOnSheet}
+use Rattle.machine.specs.Requests.{allPlaces, split}
+use Rattle.machine.proofs.TestLaws.{passed, cond-cases}
+use Rattle.machine.proofs.PlacesLaws.{length-tabulate, each-weaker, each-any-false}
+use Rattle.machine.proofs.CountLaws.{few-distinct}
+use Rattle.machine.proofs.SheetLaws.{places-below}
+use Rattle.names.specs.declared.Listed.{Listed}
+use Rattle.names.specs.Scan.{held, placeIn, isPast, listing, placesOf, distinctly, scanned, placesNamed, placesTold, told}
+use Rattle.names.proofs.ListingLaws.{listing-places}
+
+map-same : {A B : Type 0} (f g : A → B) → ((x : A) → f x ≡ g x) → (xs : List A) → map f xs ≡ map g xs
+map-same f g e [] = refl
+map-same f g e (x ∷ xs) = rw (e x, map-same f g e xs)
+
+-- A list is no longer than its array, on every sheet.
+
+pub scanned-few : (sheet : Sheet) (js : List ℕ) → scanned sheet js .count ≤ 32
+unfolding scanned distinctly listing
+scanned-few sheet js =
+    cond-cases (λ (l : Listed). l .count ≤ 32) (any (isPast sheet) js) (listing 16 []) (distinctly js) (λ e. omega arith)
+    (λ e. cond-cases (λ (l : Listed). l .count ≤ 32) (twice js) (listing 21 []) (listing 0 js) (λ t. omega arith) (λ t. few-distinct 32 js (inside e) t))
+  where
+    inside : any (isPast sheet) js ≡ false → Each (λ j. j < 32) js
+    inside e = each-weaker (λ j. isPast sheet j ≡ false) (λ j. j < 32) (λ j h. omega (arith, leb-false (held sheet) j h)) js (each-any-false (isPast sheet) js e)
+
+pub told-few : (sheet : Sheet) (named : Bool) (name : List ℕ) → told sheet (placesTold sheet named name) .count ≤ 32
+unfolding told listing placesTold
+told-few sheet named name =
+    cond-cases (λ (l : Listed). l .count ≤ 32) (any (isPast sheet) (placesTold sheet named name)) (listing 16 []) (listing 0 (placesTold sheet named name))
+    (λ e. omega arith) (λ e. few named)
+  where
+    few : (t : Bool) → length (placesTold sheet t name) ≤ 32
+    few true = omega arith
+    few false = omega (arith, length-tabulate (λ j. j) (held sheet))
+
+module _ (sheet : Sheet) (h : sheet .count ≤ 32) where
+  pub held-is : held sheet ≡ sheet .count
+  held-is = omega arith
+
+  pub place-is : (name : List ℕ) → placeIn sheet name ≡ placeOf sheet name
+  unfolding placeIn placeOf
+  place-is name = ap (firstBelow (λ j. same (nameOf (sensorOf sheet j)) name)) held-is
+
+  pub named-are : (names : List ℕ) → placesNamed sheet names ≡ map (placeOf sheet) (split names)
+  unfolding placesNamed
+  named-are names = map-same (placeIn sheet) (placeOf sheet) place-is (split names)
+
+  pub told-are : (named : Bool) (name : List ℕ) → placesTold sheet named name ≡ cond named (placeOf sheet name ∷ []) (allPlaces sheet)
+  unfolding placesTold
+  told-are named name = rw (place-is name, held-is)
+
+  past-are : (js : List ℕ) → any (isPast sheet) js ≡ any (notOnSheet sheet) js
+  past-are js = ap (λ n. any (leb n) js) held-is
+
+  module _ (js : List ℕ) where
+    pub scanned-number : scanned sheet js .number ≡ cond (any (notOnSheet sheet) js) 16 (cond (twice js) 21 0)
+    unfolding scanned distinctly listing
+    scanned-number = rw (past-are js) (go (any (notOnSheet sheet) js) (twice js))
+      where
+        go : (a b : Bool) → cond a (listing 16 []) (cond b (listing 21 []) (listing 0 js)) .number ≡ cond a 16 (cond b 21 0)
+        go true b = refl
+        go false true = refl
+        go false false = refl
+
+    pub told-number : told sheet js .number ≡ cond (any (notOnSheet sheet) js) 16 0
+    unfolding told listing
+    told-number = rw (past-are js) (go (any (notOnSheet sheet) js))
+      where
+        go : (a : Bool) → cond a (listing 16 []) (listing 0 js) .number ≡ cond a 16 0
+        go true = refl
+        go false = refl
+
+    -- a list that no row declines
+    module _ (z : scanned sheet js .number ≡ 0) where
+      passes : (any (notOnSheet sheet) js ≡ false) × (twice js ≡ false)
+      passes =
+          let a = passed (any (notOnSheet sheet) js) 16 (cond (twice js) 21 0) (omega arith) (sym scanned-number ∙ z) in
+          (a .0, passed (twice js) 21 0 (omega arith) (a .1) .0)
+
+      pub scanned-is : scanned sheet js ≡ listing 0 js
+      unfolding scanned distinctly
+      scanned-is = rw (past-are js, passes .0, passes .1)
+
+      pub scanned-places : placesOf (scanned sheet js) ≡ js
+      scanned-places = ap placesOf scanned-is ∙ listing-places 0 js
+
+      pub scanned-count : scanned sheet js .count ≡ length js
+      unfolding listing
+      scanned-count = ap (λ (l : Listed). l .count) scanned-is
+
+      pub scanned-below : Each (λ j. j < sheet .count) js
+      scanned-below = places-below sheet js (passes .0)
+
+    module _ (z : told sheet js .number ≡ 0) where
+      passes-told : any (notOnSheet sheet) js ≡ false
+      passes-told = passed (any (notOnSheet sheet) js) 16 0 (omega arith) (sym told-number ∙ z) .0
+
+      pub told-is : told sheet js ≡ listing 0 js
+      unfolding told
+      told-is = rw (past-are js, passes-told)
+
+      pub told-places : placesOf (told sheet js) ≡ js
+      told-places = ap placesOf told-is ∙ listing-places 0 js
+
+      pub told-count : told sheet js .count ≡ length js
+      unfolding listing
+      told-count = ap (λ (l : Listed). l .count) told-is
+
+      pub told-below : Each (λ j. j < sheet .count) js
+      told-below = places-below sheet js passes-told

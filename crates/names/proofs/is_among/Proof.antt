@@ -1,0 +1,49 @@
+-- What is found is what is among the places passed.
+use borrow.Author.Needs.{needs}
+use Prim.Native.Nat.{_-_}
+use mathlib.Core.Path.{refl}
+use native.Mathlib.Omega.{arith}
+use lib.Dec.{eqb}
+use lib.ListN.{length}
+use Rattle.machine.specs.Places.{has}
+use Rattle.machine.proofs.FoundLaws.{Found, found-none, found-on, found-all}
+use Rattle.names.proofs.is_among.Statement.{statement}
+use Rattle.names.proofs.is_among.Tie as tie
+
+abbrev Inv-loop : tie.InvT-loop
+Inv-loop places j found₀ k₀ found k = Found (eqb j) places found k
+
+abbrev μ-loop : tie.MeasureT-loop
+μ-loop places j found₀ k₀ found k = length places - k
+
+loop-holds : tie.Need-loop-holds Inv-loop μ-loop
+loop-holds c = found-none _ _
+
+shared-slice-read-found : tie.Need-shared-slice-read-found Inv-loop μ-loop
+shared-slice-read-found c = search needs
+
+add-k : tie.Need-add-k Inv-loop μ-loop
+add-k c = search needs
+
+loop-less : tie.Need-loop-less Inv-loop μ-loop
+loop-less c = search needs
+
+loop-again : tie.Need-loop-again Inv-loop μ-loop
+loop-again c = found-on (c .before .before .loop .inv) 0 _ (omega arith) refl
+
+returns : tie.Need-returns Inv-loop μ-loop
+unfolding has
+returns c = found-all (c .before .loop .inv) (omega arith)
+
+pub is-among-spec : {M : Type 1} → statement M
+is-among-spec =
+    tie.close
+    (tie.spec
+    Inv-loop
+    μ-loop
+    loop-holds
+    shared-slice-read-found
+    add-k
+    loop-less
+    loop-again
+    returns)

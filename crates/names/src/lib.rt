@@ -1,0 +1,160 @@
+//! Sensors by their names: the place of a name on the sheet, the scan of a comma list, and the sensors that a request tells of.
+use machine::Sensor;
+use machine::Sheet;
+ghost use mathlib.Core.Path.{_≡_};
+ghost use mathlib.Core.List.{[]};
+ghost use Prim.Native.Nat.{_<_, min};
+ghost use lib.ListN.{length};
+ghost use Rattle.output.specs.Text as texts;
+ghost use Rattle.machine.specs.Places.{has, tabulate};
+ghost use Rattle.machine.specs.Sheet.{nameOf};
+ghost use Rattle.names.specs.Scan as scans;
+
+// The sensors that a request names, by their places: the first `count` of `places`. Where a row declines them, its number, and none.
+pub struct Listed {
+    pub number: u8,
+    pub count: usize,
+    pub places: [u8; 32],
+}
+
+// No places: the start of a list, or a list that is declined.
+fn no_places(number: u8) -> Listed
+    ensures { λ r. ⌜ r ≡ scans.listing number [] ⌝ }
+{
+    Listed {
+        number: number,
+        count: 0,
+        places: [0; 32],
+    }
+}
+
+// How many sensors of a sheet of that count a State holds.
+fn held(count: u8) -> usize
+    ensures { λ r. ⌜ r ≡ min count 32 ⌝ }
+{
+    if count < 32 { count as usize } else { 32 }
+}
+
+// Whether a sensor has that name.
+fn has_name(sensor: Sensor, name: &[u8]) -> bool
+    ensures { λ r. ⌜ r ≡ texts.same (nameOf sensor) (now (name .entry)) ⌝ }
+{
+    let own = sensor.name;
+    line::same(output::prefix(&own, sensor.name_len as usize), name)
+}
+
+// The place of the sensor with that name, or the count of the sensors where none has it.
+pub fn place_of(sheet: Sheet, name: &[u8]) -> usize
+    ensures { λ r. ⌜ r ≡ scans.placeIn sheet (now (name .entry)) ⌝ }
+{
+    let most = held(sheet.count);
+    let mut j: usize = 0;
+    while j < most {
+        let sensor = sheet.sensors[j];
+        if has_name(sensor, name) {
+            return j;
+        }
+        j += 1;
+    }
+    j
+}
+
+// The length of the first name of a comma list.
+fn first_len(names: &[u8]) -> usize
+    ensures { λ r. ⌜ r ≡ length (texts.run scans.inName (now (names .entry))) ⌝ }
+{
+    let mut i = 0;
+    while i < names.len() {
+        if names[i] == b',' {
+            return i;
+        }
+        i += 1;
+    }
+    i
+}
+
+// Whether a place is in a list of them.
+fn is_among(places: &[u8], j: u8) -> bool
+    ensures { λ r. ⌜ r ≡ has j (now (places .entry)) ⌝ }
+{
+    let mut found = false;
+    let mut k = 0;
+    while k < places.len() {
+        found = found | (j == places[k]);
+        k += 1;
+    }
+    found
+}
+
+// A list with one place more; declined where it has that place.
+fn with_place(list: Listed, j: usize) -> Listed
+    requires { ⌜ scans.Places list × (j < 32) ⌝ }
+    ensures { λ r. ⌜ r ≡ scans.withPlace list j ⌝ }
+{
+    if list.number != 0 {
+        return list;
+    }
+    let n = list.count;
+    let mut places = list.places;
+    if is_among(&places[..n], j as u8) {
+        return no_places(21);
+    }
+    places[n] = j as u8;
+    Listed {
+        number: 0,
+        count: n + 1,
+        places: places,
+    }
+}
+
+// The sensors of a comma list. It is left at the first unknown name, so nothing behind that is looked at.
+pub fn scan(sheet: Sheet, names: &[u8]) -> Listed
+    ensures { λ r. ⌜ r ≡ scans.scanned sheet (scans.placesNamed sheet (now (names .entry))) ⌝ }
+{
+    let most = held(sheet.count);
+    let mut list = no_places(0);
+    let mut from: usize = 0;
+    'names: while from <= names.len() {
+        let to = from + first_len(&names[from..]);
+        let j = place_of(sheet, &names[from..to]);
+        if j == most {
+            list = no_places(16);
+            break 'names;
+        }
+        list = with_place(list, j);
+        from = to + 1;
+    }
+    list
+}
+
+// All sensors, in sheet order.
+fn every_place(count: u8) -> Listed
+    ensures { λ r. ⌜ r ≡ scans.listing 0 (tabulate (λ j. j) (min count 32)) ⌝ }
+{
+    let most = held(count);
+    let mut places: [u8; 32] = [0; 32];
+    let mut j: usize = 0;
+    while j < most {
+        places[j] = j as u8;
+        j += 1;
+    }
+    Listed {
+        number: 0,
+        count: most,
+        places: places,
+    }
+}
+
+// The sensor that is named, or all sensors.
+pub fn told(sheet: Sheet, named: bool, name: &[u8]) -> Listed
+    ensures { λ r. ⌜ r ≡ scans.told sheet (scans.placesTold sheet named (now (name .entry))) ⌝ }
+{
+    if !named {
+        return every_place(sheet.count);
+    }
+    let j = place_of(sheet, name);
+    if j == held(sheet.count) {
+        return no_places(16);
+    }
+    with_place(no_places(0), j)
+}
