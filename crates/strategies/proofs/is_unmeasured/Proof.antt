@@ -1,0 +1,65 @@
+-- Whether one was found among the places so far. The measure is the places that are left.
+use Prim.Native.Nat.{_-_}
+use native.Mathlib.Omega.{arith}
+use mathlib.Core.Path.{ap, _∙_}
+use lib.Dec.{leb}
+use lib.ListN.{length}
+use borrow.Author.Needs.{needs}
+use Rattle.machine.specs.Sheet.{sensorOf}
+use Rattle.strategies.proofs.TypeLaws.{type-at}
+use Rattle.machine.proofs.FoundLaws.{Found, found-none, found-on, found-all}
+use Rattle.strategies.proofs.is_unmeasured.Statement.{statement}
+use Rattle.strategies.proofs.is_unmeasured.Tie as tie
+
+abbrev Inv-loop : tie.InvT-loop
+Inv-loop places sheet found₀ k₀ found k = Found (λ j. leb 3 (sensorOf sheet j .kind)) places found k
+
+abbrev μ-loop : tie.MeasureT-loop
+μ-loop places sheet found₀ k₀ found k = length places - k
+
+loop-holds : tie.Need-loop-holds Inv-loop μ-loop
+loop-holds c = found-none _ _
+
+shared-slice-read-j : tie.Need-shared-slice-read-j Inv-loop μ-loop
+shared-slice-read-j c = omega arith
+
+cast-sensor : tie.Need-cast-sensor Inv-loop μ-loop
+cast-sensor c = search needs
+
+mul-sensor : tie.Need-mul-sensor Inv-loop μ-loop
+mul-sensor c = search needs
+
+element-copy-out-sensor : tie.Need-element-copy-out-sensor Inv-loop μ-loop
+element-copy-out-sensor c = search needs
+
+type-if-requires : tie.Need-type-if-requires Inv-loop μ-loop
+type-if-requires c κs = search needs
+
+add-k : tie.Need-add-k Inv-loop μ-loop
+add-k c = omega arith
+
+loop-less : tie.Need-loop-less Inv-loop μ-loop
+loop-less c = omega arith
+
+loop-again : tie.Need-loop-again Inv-loop μ-loop
+loop-again c = found-on (c .before .before .before .before .loop .inv) 0 _ (c .before .before .before .loop-test .taken) (ap (leb 3) (c .type-if .ensures ∙ type-at (c .before .before .before .before .before .before .args .t1) _ (c .before .before .before .before .before .before .good .0) _))
+
+returns : tie.Need-returns Inv-loop μ-loop
+returns c = found-all (c .before .loop .inv) (omega arith)
+
+pub is-unmeasured-spec : {M : Type 1} → statement M
+is-unmeasured-spec =
+    tie.close
+    (tie.spec
+    Inv-loop
+    μ-loop
+    loop-holds
+    shared-slice-read-j
+    cast-sensor
+    mul-sensor
+    element-copy-out-sensor
+    type-if-requires
+    add-k
+    loop-less
+    loop-again
+    returns)

@@ -1,0 +1,24 @@
+-- A parameter that can be read gives the strategy.
+use borrow.Author.Needs.{needs}
+use Rattle.machine.specs.Places.{any}
+use Rattle.machine.specs.Requests.{strategyBy}
+use Rattle.strategies.specs.Settings.{made}
+use Rattle.strategies.proofs.periodic.Statement.{statement}
+use Rattle.strategies.proofs.periodic.Tie as tie
+
+enum-known-period : tie.Need-enum-known-period
+enum-known-period c = search needs
+
+enum-told : tie.Need-enum-told
+enum-told c = search needs
+
+returns : tie.Need-returns
+unfolding made any strategyBy
+returns c = rw (c .enum-told .given .1)
+
+returns-2 : tie.Need-returns-2
+unfolding made any strategyBy
+returns-2 c = rw (c .before .period .given .1)
+
+pub periodic-spec : {M : Type 1} → statement M
+periodic-spec = tie.close (tie.spec enum-known-period enum-told returns returns-2)
