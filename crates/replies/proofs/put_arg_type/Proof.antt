@@ -1,0 +1,55 @@
+-- Each arm writes the word that `typeText` has for its number.
+use borrow.Author.Needs.{needs}
+use lib.ListN.{List·getD-eq-default}
+use Rattle.output.specs.Text.{text}
+use Rattle.output.proofs.OutputLaws.{same}
+use Rattle.output.proofs.TableLaws.{past-all}
+use Rattle.machine.specs.Messages.{typeText}
+use Rattle.replies.proofs.put_arg_type.Statement.{statement}
+use Rattle.replies.proofs.put_arg_type.Tie as tie
+
+returns : tie.Need-returns
+unfolding typeText
+returns c = rw (c .before .before .before .before .before .match .keys1) (c .before .before .put-arg .ensures)
+
+returns-2 : tie.Need-returns-2
+unfolding typeText
+returns-2 c = rw (c .before .before .before .before .before .match .keys2) (c .before .before .put-arg2 .ensures)
+
+returns-3 : tie.Need-returns-3
+unfolding typeText
+returns-3 c = rw (c .before .before .before .before .before .match .keys3) (c .before .before .put-arg3 .ensures)
+
+returns-4 : tie.Need-returns-4
+unfolding typeText
+returns-4 c = rw (c .before .before .before .before .before .match .keys4) (c .before .before .put-arg4 .ensures)
+
+returns-5 : tie.Need-returns-5
+unfolding typeText
+returns-5 c = rw (c .before .before .before .before .before .match .keys5) (c .before .before .put-arg5 .ensures)
+
+returns-6 : tie.Need-returns-6
+unfolding typeText
+returns-6 c =
+    rw (List·getD-eq-default _ (text "timestamp") (past-all 5 (c .before .before .before .before .before .before .before .args .kind) (c .before .before .before .before .before .match .rest))) (c .before .before .put-arg6 .ensures)
+
+same-length : tie.Need-same-length
+same-length c = same (returns c)
+
+same-length-2 : tie.Need-same-length-2
+same-length-2 c = same (returns-2 c)
+
+same-length-3 : tie.Need-same-length-3
+same-length-3 c = same (returns-3 c)
+
+same-length-4 : tie.Need-same-length-4
+same-length-4 c = same (returns-4 c)
+
+same-length-5 : tie.Need-same-length-5
+same-length-5 c = same (returns-5 c)
+
+same-length-6 : tie.Need-same-length-6
+same-length-6 c = same (returns-6 c)
+
+pub put-arg-type-spec : {M : Type 1} → statement M
+put-arg-type-spec = tie.close (tie.spec (λ c. search needs) (λ c κs. search needs) (λ c. search needs) (λ c κs. search needs) (λ c. search needs) (λ c κs. search needs) (λ c. search needs) (λ c κs. search needs) (λ c. search needs) (λ c κs. search needs) (λ c. search needs) (λ c κs. search needs) same-length returns same-length-2 returns-2 same-length-3 returns-3 same-length-4 returns-4 same-length-5 returns-5 same-length-6 returns-6)
