@@ -22,7 +22,7 @@ use Rattle.value.specs.declared.Sampled.the-variants.{As}
 use Rattle.machine.specs.declared.Sensor.{Sensor}
 use Rattle.machine.specs.State.{noStored, withReadings, withReading}
 use Rattle.machine.proofs.StoreLaws.{set-by-place}
-use Rattle.device.proofs.AnswerLaws.{rowsThen, numberOf}
+use Rattle.declining.proofs.AnswerLaws.{rowsThen, numberOf}
 
 -- Rows 1, 2, 3 and 9, before row 10 is asked.
 

@@ -11,7 +11,7 @@ use Rattle.machine.specs.Declined.{clientDeclined, addressFits}
 use Rattle.machine.proofs.TestLaws.{fitted}
 use Rattle.machine.proofs.StepLaws.{client-fits}
 use Rattle.machine.proofs.Sent.{address-most}
-use Rattle.device.proofs.AnswerLaws.{rowsThen, own-passes}
+use Rattle.declining.proofs.AnswerLaws.{rowsThen, own-passes}
 
 -- rows 5 and 6 for the same test and the same rows behind them
 pub client-same : (c : ℕ) {refused r : Bool} {own o : ℕ} → refused ≡ r → own ≡ o → clientDeclined refused c own ≡ clientDeclined r c o

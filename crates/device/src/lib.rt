@@ -11,10 +11,10 @@ use rules::Charset;
 use value::Reading;
 use value::Sampled;
 ghost use mathlib.Core.Path.{_≡_};
-ghost use mathlib.Core.Bool.{cond, not, _&&_};
+ghost use mathlib.Core.Bool.{cond, _&&_};
 ghost use mathlib.Core.List.{[]};
 ghost use Prim.Native.Nat.{_/_, _≤_, _<_};
-ghost use lib.Dec.{eqb, leb, ltb};
+ghost use lib.Dec.{eqb, leb};
 ghost use lib.ListN.{length, getD};
 ghost use Rattle.output.specs.Output.{output};
 ghost use Rattle.output.specs.Read.{inTime};
@@ -31,40 +31,6 @@ pub fn open(sheet: &[u8]) -> Opened
     ensures { λ r. ⌜ r ≡ opening.opened (now (sheet .entry)) ⌝ }
 {
     sheet::open(sheet)
-}
-
-// An answer that counts no byte: a refusal leaves the output, and is handed the state as it was.
-fn silent(number: u8, state: State) -> Answer
-    ensures { λ r. ⌜ r ≡ record { number = number; written = 0; state = state } ⌝ }
-{
-    Answer {
-        number: number,
-        written: 0,
-        state: state,
-    }
-}
-
-// Rows 1, 2 and 3, which every call has, and then the call's own.
-fn rows(in_range: bool, room: usize, halted: bool, own: u8) -> u8
-    ensures { λ r. ⌜ r ≡ cond (not «in_range») 1 (cond (ltb room 65536) 2 (cond halted 3 own)) ⌝ }
-{
-    if !in_range {
-        return 1;
-    }
-    if room < 65536 {
-        return 2;
-    }
-    if halted { 3 } else { own }
-}
-
-// Rows 5 and 6, and then those behind them.
-fn client_rows(refused: bool, client: usize, own: u8) -> u8
-    ensures { λ r. ⌜ r ≡ calls.clientDeclined refused client own ⌝ }
-{
-    if 7 < client {
-        return 5;
-    }
-    if refused { 6 } else { own }
 }
 
 // Row 7.
@@ -107,17 +73,6 @@ fn entry_row(level: u8, logger: &[u8], message: &[u8]) -> u8
     } else {
         11
     }
-}
-
-// Whether a client of that number is connected.
-fn is_connected(clients: [Client; 8], client: usize) -> bool
-    ensures { λ r. ⌜ r ≡ getD clients client states.noClient .connected ⌝ }
-{
-    if client < 8 {
-        let k = clients[client];
-        return k.connected;
-    }
-    false
 }
 
 // A client that connects.
@@ -177,10 +132,14 @@ pub fn connect(state: State, client: usize, address: &[u8], out: &mut [u8]) -> A
     ensures { λ r. ⌜ now (out .exit) ≡ outputOf (step state (calls.callOf (calls.Connect client (now (address .entry))) (now (out .entry)))) (now (out .entry)) ⌝ }
 {
     let clients = state.clients;
-    let own = client_rows(is_connected(clients, client), client, address_row(address));
-    let number = rows(sheet::in_range(state), out.len(), state.halted, own);
+    let own = declining::client_rows(
+        declining::is_connected(clients, client),
+        client,
+        address_row(address),
+    );
+    let number = declining::rows(sheet::in_range(state), out.len(), state.halted, own);
     if number != 0 {
-        return silent(number, state);
+        return declining::silent(number, state);
     }
     let sheet = state.sheet;
     let at = informs::deliver_versions(out, 0, client as u8, b"version-connect", 0, sheet);
@@ -199,13 +158,13 @@ pub fn disconnect(state: State, client: usize, out: &mut [u8]) -> Answer
     ensures { λ r. ⌜ now (out .exit) ≡ outputOf (step state (calls.callOf (calls.Disconnect client) (now (out .entry)))) (now (out .entry)) ⌝ }
 {
     let clients = state.clients;
-    let own = client_rows(!is_connected(clients, client), client, 0);
-    let number = rows(sheet::in_range(state), out.len(), state.halted, own);
+    let own = declining::client_rows(!declining::is_connected(clients, client), client, 0);
+    let number = declining::rows(sheet::in_range(state), out.len(), state.halted, own);
     if number != 0 {
-        return silent(number, state);
+        return declining::silent(number, state);
     }
     let next = with_client(state, client, machine::blank_client());
-    silent(0, next)
+    declining::silent(0, next)
 }
 
 // The clock is set, and every subscription visited.
@@ -214,9 +173,9 @@ pub fn tick(mut state: State, ms: u64, out: &mut [u8]) -> Answer
     ensures { λ r. ⌜ now (out .exit) ≡ outputOf (step state (calls.callOf (calls.Tick ms) (now (out .entry)))) (now (out .entry)) ⌝ }
 {
     let own = tick_row(state.clock, ms);
-    let number = rows(sheet::in_range(state), out.len(), state.halted, own);
+    let number = declining::rows(sheet::in_range(state), out.len(), state.halted, own);
     if number != 0 {
-        return silent(number, state);
+        return declining::silent(number, state);
     }
     state.clock = ms;
     sampling::visit(state, Cause::Tick, out)
@@ -228,18 +187,18 @@ pub fn reading(mut state: State, sensor: usize, reading: Reading, out: &mut [u8]
     ensures { λ r. ⌜ now (out .exit) ≡ outputOf (step state (calls.callOf (calls.Reading sensor reading) (now (out .entry)))) (now (out .entry)) ⌝ }
 {
     let sheet = state.sheet;
-    let number = rows(
+    let number = declining::rows(
         sheet::in_range(state),
         out.len(),
         state.halted,
         sensor_row(sheet.count, sensor),
     );
     if number != 0 {
-        return silent(number, state);
+        return declining::silent(number, state);
     }
     let listed = sheet.sensors[sensor];
     let Sampled::As(sample) = value::sample_of(listed.kind, listed.option_count, reading) else {
-        return silent(10, state);
+        return declining::silent(10, state);
     };
     state.readings[sensor] = Stored {
         sample: sample,
@@ -272,9 +231,9 @@ pub fn log(state: State, level: u8, logger: &[u8], message: &[u8], out: &mut [u8
     ensures { λ r. ⌜ now (out .exit) ≡ outputOf (step state (calls.callOf (calls.Log level (now (logger .entry)) (now (message .entry))) (now (out .entry)))) (now (out .entry)) ⌝ }
 {
     let own = entry_row(level, logger, message);
-    let number = rows(sheet::in_range(state), out.len(), state.halted, own);
+    let number = declining::rows(sheet::in_range(state), out.len(), state.halted, own);
     if number != 0 {
-        return silent(number, state);
+        return declining::silent(number, state);
     }
     let clients = state.clients;
     let written = put_entry(

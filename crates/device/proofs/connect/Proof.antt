@@ -10,7 +10,7 @@ use Rattle.message.proofs.DeliveryLaws.{and}
 use Rattle.machine.specs.Messages.{versionConnect, protocolArgs, deviceArgs, clientConnected, toOthers}
 use Rattle.machine.specs.Declined.{Action, Connect, actionDeclined, refusal}
 use Rattle.machine.specs.Machine.{connectSends, perform}
-use Rattle.device.proofs.AnswerLaws.{numberOf, declined-by, refused, performed}
+use Rattle.declining.proofs.AnswerLaws.{numberOf, declined-by, refused, performed}
 use Rattle.device.proofs.RowLaws.{client-same, connect-passes}
 use Rattle.device.proofs.connect.Statement.{statement}
 use Rattle.device.proofs.connect.Tie as tie

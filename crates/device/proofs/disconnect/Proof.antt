@@ -6,7 +6,7 @@ use Rattle.message.proofs.DeliveryLaws.{none-sent}
 use Rattle.machine.specs.Declined.{Action, Disconnect, actionDeclined, refusal}
 use Rattle.machine.specs.Machine.{perform}
 use Rattle.machine.proofs.StepLaws.{client-fits}
-use Rattle.device.proofs.AnswerLaws.{numberOf, own-passes, declined-by, refused, performed}
+use Rattle.declining.proofs.AnswerLaws.{numberOf, own-passes, declined-by, refused, performed}
 use Rattle.device.proofs.RowLaws.{client-same}
 use Rattle.device.proofs.disconnect.Statement.{statement}
 use Rattle.device.proofs.disconnect.Tie as tie

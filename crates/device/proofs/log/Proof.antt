@@ -3,7 +3,7 @@ use mathlib.Core.Path.{_≡_, refl, _∙_}
 use borrow.Author.Needs.{needs}
 use Rattle.machine.specs.Declined.{Action, Log, actionDeclined, refusal}
 use Rattle.machine.specs.Machine.{entries, perform}
-use Rattle.device.proofs.AnswerLaws.{numberOf, declined-by, refused, performed}
+use Rattle.declining.proofs.AnswerLaws.{numberOf, declined-by, refused, performed}
 use Rattle.device.proofs.log.Statement.{statement}
 use Rattle.device.proofs.log.Tie as tie
 

@@ -13,7 +13,7 @@ use Rattle.machine.specs.Report.{visit}
 use Rattle.machine.specs.Declined.{Action, Reading, refusal}
 use Rattle.machine.specs.Machine.{perform}
 use Rattle.machine.proofs.ArrayLaws.{readings-many}
-use Rattle.device.proofs.AnswerLaws.{numberOf, by-parts, refused, performed}
+use Rattle.declining.proofs.AnswerLaws.{numberOf, by-parts, refused, performed}
 use Rattle.device.proofs.ReadingLaws.{unfitRow, reading-declined, reading-own, reading-place, given-is, stored-reading}
 use Rattle.device.proofs.reading.Statement.{statement}
 use Rattle.device.proofs.reading.Tie as tie

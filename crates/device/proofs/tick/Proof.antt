@@ -3,7 +3,7 @@ use mathlib.Core.Path.{_≡_, refl, _∙_}
 use borrow.Author.Needs.{needs}
 use Rattle.machine.specs.Declined.{Action, Tick, tickFits, actionDeclined, refusal}
 use Rattle.machine.specs.Machine.{perform}
-use Rattle.device.proofs.AnswerLaws.{numberOf, by-parts, declined-by, refused, performed}
+use Rattle.declining.proofs.AnswerLaws.{numberOf, by-parts, declined-by, refused, performed}
 use Rattle.device.proofs.tick.Statement.{statement}
 use Rattle.device.proofs.tick.Tie as tie
 

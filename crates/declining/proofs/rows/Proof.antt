@@ -1,8 +1,8 @@
 -- Each row by its test.
 use borrow.Author.Tests.{lt-ltb, le-ltb}
 use borrow.Author.Needs.{needs}
-use Rattle.device.proofs.rows.Statement.{statement}
-use Rattle.device.proofs.rows.Tie as tie
+use Rattle.declining.proofs.rows.Statement.{statement}
+use Rattle.declining.proofs.rows.Tie as tie
 
 returns : tie.Need-returns
 returns c = search needs

@@ -1,7 +1,7 @@
 -- What a call answers and leaves on its output: by the number that declines it, or by what it sends.
 use Prim.Native.Nat.{ℕ, zero, suc, _≤_}
 use native.Mathlib.Omega.{arith}
-use mathlib.Core.Path.{_≡_, refl, sym, _∙_, ap}
+use mathlib.Core.Path.{_≡_, refl, sym, _∙_, ap, subst}
 use mathlib.Core.Bool.{Bool, cond, not}
 use mathlib.Core.List.{List, []}
 use lib.Dec.{ltb}
@@ -44,6 +44,10 @@ by-parts r e = ap (counted r) e
     counted : Answer → ℕ → Answer
     counted r n = record { number = n; written = r .written; state = r .state }
 
+-- an answer by its parts
+by-all : (r : Answer) {n w : ℕ} {next : State} → r .number ≡ n → r .written ≡ w → r .state ≡ next → r ≡ record { number = n; written = w; state = next }
+by-all r e f g = rw (e, f, g)
+
 module _ (s : State) (action : Action) (lent : List ℕ) where
   -- the number of a call is that of its rows
   pub declined-by : {good : Bool} {own n : ℕ} → good ≡ inRange s → own ≡ actionDeclined (s .sheet) s action → n ≡ rowsThen good s lent own → numberOf s action lent ≡ n
@@ -57,11 +61,17 @@ module _ (s : State) (action : Action) (lent : List ℕ) where
   refused {n = zero} e h f q = absurd (h refl)
   refused {n = suc n} e h f q = (rw (q, e, f), rw (e, f))
 
+  -- a call that gives what the machine makes of it, with room for every output
+  pub answers : {r : Answer} {out : List ℕ} → 65536 ≤ length lent → r .number ≡ step s (callOf action lent) .number → r .state ≡ step s (callOf action lent) .next
+      → Sent (output lent 0) (step s (callOf action lent) .sent) (output out (r .written)) → Answers s action lent r out
+  answers {r = r} room e f d =
+      let laid-down = at-start d (omega (arith, fits s (callOf action lent) .0)) in
+      (by-all r e (laid-down .0) f, laid-down .1)
+
   -- a call that is carried out
   pub performed : {out : List ℕ} {w : ℕ} {next : State} {r : Answer} → numberOf s action lent ≡ 0 → r ≡ record { number = 0; written = w; state = next }
       → next ≡ perform (s .sheet) s action .next → Sent (output lent 0) (perform (s .sheet) s action .sent) (output out w) → Answers s action lent r out
   unfolding outcome
-  performed e q f d =
-      let size : length (deliveries (perform (s .sheet) s action .sent)) ≤ 65536 = rw e at (fits s (callOf action lent) .0) in
-      let laid-down = at-start d (omega (arith, accepted s (callOf action lent) e .room)) in
-      (rw (q, e, f, laid-down .0), rw e (laid-down .1))
+  performed {out} {w} {next} {r} e q f d =
+      subst (λ (x : Answer). Answers s action lent x out) (sym q)
+      (answers {r = record { number = 0; written = w; state = next }} (accepted s (callOf action lent) e .room) (rw e) (rw (e, f)) (rw e d))

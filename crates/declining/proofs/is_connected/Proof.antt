@@ -5,8 +5,8 @@ use lib.ListN.{length, List·getD-eq-default}
 use borrow.Author.Needs.{needs}
 use Rattle.machine.specs.declared.Client.{Client}
 use Rattle.machine.specs.State.{noClient}
-use Rattle.device.proofs.is_connected.Statement.{statement}
-use Rattle.device.proofs.is_connected.Tie as tie
+use Rattle.declining.proofs.is_connected.Statement.{statement}
+use Rattle.declining.proofs.is_connected.Tie as tie
 
 mul-k : tie.Need-mul-k
 mul-k c = search needs

@@ -1,7 +1,7 @@
 -- The answer by its parts.
 use mathlib.Core.Path.{refl}
-use Rattle.device.proofs.silent.Statement.{statement}
-use Rattle.device.proofs.silent.Tie as tie
+use Rattle.declining.proofs.silent.Statement.{statement}
+use Rattle.declining.proofs.silent.Tie as tie
 
 returns : tie.Need-returns
 returns c = refl

@@ -1,8 +1,8 @@
 -- Each row by its test.
 use borrow.Author.Tests.{lt-ltb, le-ltb}
 use Rattle.machine.specs.Declined.{clientDeclined}
-use Rattle.device.proofs.client_rows.Statement.{statement}
-use Rattle.device.proofs.client_rows.Tie as tie
+use Rattle.declining.proofs.client_rows.Statement.{statement}
+use Rattle.declining.proofs.client_rows.Tie as tie
 
 returns : tie.Need-returns
 unfolding clientDeclined
