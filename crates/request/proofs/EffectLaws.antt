@@ -1,0 +1,165 @@
+-- What a line comes to: by what it asks, and by the row that declines it.
+use Prim.Native.Nat.{ℕ, zero, suc, _≤_, _<_}
+use Prim.Native.Char.{code}
+use native.Mathlib.Omega.{arith}
+use mathlib.Core.Path.{_≡_, refl, sym, _∙_, ap}
+use mathlib.Core.Bool.{Bool, true, false, cond, not}
+use mathlib.Core.List.{List, []}
+use mathlib.Core.Option.{Option, none, some}
+use lib.Dec.{ltb}
+use lib.ListN.{length}
+use borrow.Author.Tests.{ne-eqb, ltb-false, le-ltb}
+use Rattle.output.specs.Text.{text}
+use Rattle.message.specs.Message.{Message}
+use Rattle.line.specs.declared.Header.{Header}
+use Rattle.line.specs.declared.Parsed.the-variants as P
+use Rattle.line.specs.Line.{Parse, malformed, message, parse, blankLine}
+use Rattle.line.specs.Answer.{answer as parsed}
+use Rattle.machine.specs.declared.Sheet.{Sheet}
+use Rattle.machine.specs.declared.State.{State}
+use Rattle.machine.specs.declared.Answer.{Answer}
+use Rattle.machine.specs.declared.Request.{Request}
+use Rattle.machine.specs.State.{connected}
+use Rattle.machine.specs.Range.{inRange}
+use Rattle.machine.specs.Messages.{refusalText}
+use Rattle.machine.specs.Requests.{Asks, requestNamed, askedFor, askedBy, asked, sendsOnly, answer}
+use Rattle.machine.specs.Declined.{Line, callOf, clientDeclined, countFits, argumentsDeclined, lineDeclined, lineRefusal, actionDeclined, declined, refusal}
+use Rattle.machine.specs.Machine.{done, lineWork, perform, outcome, step}
+use Rattle.machine.proofs.TestLaws.{passed}
+use Rattle.machine.proofs.LineNumbers.{line-number}
+use Rattle.replies.specs.declared.Found.the-variants as F
+use Rattle.replies.specs.Asking.{found}
+use Rattle.declining.proofs.AnswerLaws.{rowsThen, numberOf, Answers, answers}
+use Rattle.request.specs.Reading.{messageOf, IsRead}
+use Rattle.request.proofs.ReadLaws.{message-is}
+use Rattle.request.proofs.GivenLaws.{as-given}
+use Rattle.request.specs.Effects.{lineOutcome, lineEffect, refusedWith, complained, Gives}
+
+module _ (s : State) (c : ℕ) where
+  -- a blank line
+  pub blank-effect : (line : List ℕ) → blankLine line ≡ true → lineEffect s c (asked line) ≡ done (sendsOnly s [])
+  unfolding lineEffect lineOutcome lineDeclined lineWork asked
+  blank-effect line e = rw e
+
+  -- another
+  pub written-effect : (line : List ℕ) → blankLine line ≡ false → lineEffect s c (asked line) ≡ lineEffect s c (askedBy (parse line))
+  unfolding asked
+  written-effect line e = rw e
+
+  -- a line that was read comes to what its message does
+  pub read-effect : (line : List ℕ) {head : Header} → IsRead line head → lineEffect s c (askedBy (parse line)) ≡ lineEffect s c (askedBy (message (messageOf line)))
+  read-effect line h = ap (λ (p : Parse). lineEffect s c (askedBy p)) (message-is line _ h)
+
+  -- a line that is no message
+  pub malformed-effect : lineEffect s c (askedBy malformed) ≡ complained s c 12 (text "Not a message.")
+  unfolding lineEffect lineOutcome lineDeclined lineRefusal refusalText
+  malformed-effect = refl
+
+  module _ (m : Message) where
+    pub inform-effect : m .kind ≡ code "#" → lineEffect s c (askedBy (message m)) ≡ done (sendsOnly s [])
+    unfolding lineEffect lineOutcome lineDeclined lineWork
+    inform-effect e = rw e
+
+    pub reply-effect : m .kind ≡ code "!" → lineEffect s c (askedBy (message m)) ≡ complained s c 13 (text "Unexpected reply.")
+    unfolding lineEffect lineOutcome lineDeclined lineRefusal refusalText
+    reply-effect e = rw e
+
+    pub request-effect : (m .kind ≡ code "#" → ⊥) → (m .kind ≡ code "!" → ⊥) → lineEffect s c (askedBy (message m)) ≡ lineEffect s c (askedFor (requestNamed (m .name)) m)
+    request-effect f g = rw (ne-eqb (m .kind) (code "#") f, ne-eqb (m .kind) (code "!") g)
+
+    -- a request that the table does not have
+    pub unknown-effect : requestNamed (m .name) ≡ none → lineEffect s c (askedFor (requestNamed (m .name)) m) ≡ refusedWith s c m 14
+    unfolding lineEffect lineOutcome lineDeclined lineRefusal
+    unknown-effect e = rw e
+
+    -- one that it has
+    module _ (r : Request) (e : requestNamed (m .name) ≡ some r) where
+      pub declined-effect : {n : ℕ} → n ≡ lineDeclined (s .sheet) (Asks r m) → (n ≡ 0 → ⊥) → lineEffect s c (askedFor (requestNamed (m .name)) m) ≡ refusedWith s c m n
+      unfolding lineEffect lineOutcome lineRefusal
+      declined-effect {n} q h = rw (e, ← q) (go n h)
+        where
+          go : (n : ℕ) → (n ≡ 0 → ⊥) → lineOutcome s c (Asks r m) n ≡ refusedWith s c m n
+          go zero h = absurd (h refl)
+          go (suc n) h = refl
+
+      pub accepted-effect : lineDeclined (s .sheet) (Asks r m) ≡ 0 → lineEffect s c (askedFor (requestNamed (m .name)) m) ≡ done (answer (s .sheet) s c r m)
+      unfolding lineEffect lineOutcome lineWork
+      accepted-effect q = rw (e, q)
+
+-- What the code's answers say of a name and of a line.
+
+pub unknown-is : (o : Option Request) → found o ≡ F.Unknown → o ≡ none
+unknown-is none e = refl
+unknown-is (some r) e = absurd (let z : _≡_ {A = ℕ} 0 1 = cc in omega arith)
+
+pub known-is : (o : Option Request) (r : Request) → found o ≡ F.Is r → o ≡ some r
+known-is none r e = absurd (let z : _≡_ {A = ℕ} 0 1 = cc in omega arith)
+known-is (some q) r e = cc
+
+pub malformed-is : (p : Parse) → parsed p ≡ P.Malformed → p ≡ malformed
+malformed-is malformed e = refl
+malformed-is (message m) e = absurd (let z : _≡_ {A = ℕ} 0 1 = cc in omega arith)
+
+-- a request that no row declines
+pub arguments-fit : (sheet : Sheet) (r : Request) (m : Message) → lineDeclined sheet (Asks r m) ≡ 0 → argumentsDeclined sheet r m ≡ 0
+unfolding lineDeclined
+arguments-fit sheet r m e = passed (not (countFits r (length (m .args)))) 15 (argumentsDeclined sheet r m) (omega arith) e .1
+
+-- Rows 1, 2, 3, 5 and 6, before the line's own.
+
+abbrev rowOr : Bool → Bool → Bool → Bool → Bool → ℕ → ℕ
+rowOr a b d e f rest = cond (not a) 1 (cond b 2 (cond d 3 (cond e 5 (cond f 6 rest))))
+
+-- one of them declines
+row-declines : (a b d e f : Bool) (rest : ℕ) {n : ℕ} → n ≡ rowOr a b d e f 0 → (n ≡ 0 → ⊥) → (rowOr a b d e f rest ≡ n) × (ltb n 12 ≡ true)
+row-declines false b d e f rest q h = (sym q, rw q)
+row-declines true true d e f rest q h = (sym q, rw q)
+row-declines true false true e f rest q h = (sym q, rw q)
+row-declines true false false true f rest q h = (sym q, rw q)
+row-declines true false false false true rest q h = (sym q, rw q)
+row-declines true false false false false rest q h = absurd (h q)
+
+-- none does
+rows-pass : (a b d e f : Bool) (rest : ℕ) → rowOr a b d e f 0 ≡ 0 → (rowOr a b d e f rest ≡ rest) × (a ≡ true) × (b ≡ false) × (e ≡ false)
+rows-pass false b d e f rest q = absurd (omega arith)
+rows-pass true true d e f rest q = absurd (omega arith)
+rows-pass true false true e f rest q = absurd (omega arith)
+rows-pass true false false true f rest q = absurd (omega arith)
+rows-pass true false false false true rest q = absurd (omega arith)
+rows-pass true false false false false rest q = (refl, refl, refl, refl)
+
+module _ (s : State) (c : ℕ) (line lent : List ℕ) {good refused : Bool} {own n : ℕ}
+    (g : good ≡ inRange s) (f : refused ≡ not (connected s c)) (o : own ≡ clientDeclined refused c 0) (e : n ≡ rowsThen good s lent own) where
+  row-numbers : n ≡ rowOr (inRange s) (ltb (length lent) 65536) (s .halted) (ltb 7 c) (not (connected s c)) 0
+  unfolding clientDeclined
+  row-numbers = e ∙ rw (g, o, f)
+
+  -- the call is declined, and sends nothing
+  pub declines : (n ≡ 0 → ⊥) → (numberOf s (Line c line) lent ≡ n) × (refusal s n (Line c line) ≡ [])
+  unfolding declined actionDeclined clientDeclined refusal
+  declines h =
+      let q = row-declines (inRange s) (ltb (length lent) 65536) (s .halted) (ltb 7 c) (not (connected s c)) (lineDeclined (s .sheet) (asked line)) row-numbers h in
+      (q .0, rw (q .1))
+
+  -- the line's own rows decide
+  pub passes : n ≡ 0 → (numberOf s (Line c line) lent ≡ lineDeclined (s .sheet) (asked line)) × (inRange s ≡ true) × (65536 ≤ length lent) × (c < 8)
+  unfolding declined actionDeclined clientDeclined
+  passes h =
+      let q = rows-pass (inRange s) (ltb (length lent) 65536) (s .halted) (ltb 7 c) (not (connected s c)) (lineDeclined (s .sheet) (asked line)) (sym row-numbers ∙ h) in
+      (q .0, q .1, ltb-false (length lent) 65536 (q .2), omega (arith, ltb-false 7 c (q .3)))
+
+-- a line whose own rows decide comes to what it asks
+pub step-is : (s : State) (c : ℕ) (line lent : List ℕ) → numberOf s (Line c line) lent ≡ lineDeclined (s .sheet) (asked line) → step s (callOf (Line c line) lent) ≡ lineEffect s c (asked line)
+unfolding lineEffect outcome perform lineOutcome refusal
+step-is s c line lent e = rw e (go (lineDeclined (s .sheet) (asked line)) (line-number (s .sheet) (asked line)))
+  where
+    go : (n : ℕ) → ((n ≡ 0 → ⊥) → 12 ≤ n) → outcome (s .sheet) s (Line c line) n ≡ lineOutcome s c (asked line) n
+    go zero h = refl
+    go (suc n) h = let q : ltb (suc n) 12 ≡ false = le-ltb (suc n) 12 (h (λ z. omega (arith, z))) in rw q
+
+-- and so does its answer
+pub answered-line : (s : State) (c : ℕ) (line lent : List ℕ) {r : Answer} {out : List ℕ} → numberOf s (Line c line) lent ≡ lineDeclined (s .sheet) (asked line) → 65536 ≤ length lent
+    → Gives (lineEffect s c (asked line)) lent r out → Answers s (Line c line) lent r out
+answered-line s c line lent {r} {out} e room g =
+    let h = as-given (step-is s c line lent e) g in
+    answers s (Line c line) lent room (h .number) (h .state) (h .sent)

@@ -1,0 +1,9 @@
+pub mod ReadLaws
+pub mod PassLaws
+pub mod GivenLaws
+pub mod RowLaws
+pub mod TellLaws
+pub mod RefusalLaws
+pub mod SampledLaws
+pub mod SetLaws
+pub mod EffectLaws

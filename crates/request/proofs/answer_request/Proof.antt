@@ -1,0 +1,96 @@
+-- Unknown, declined, or carried out: each is what the line comes to.
+use borrow.Author.Needs.{needs}
+use Prim.Native.Nat.{ℕ}
+use mathlib.Core.Path.{_≡_, ap, sym, _∙_}
+use mathlib.Core.List.{List}
+use Rattle.machine.specs.Requests.{requestNamed}
+use Rattle.machine.proofs.LineNumbers.{request-number}
+use Rattle.replies.specs.Asking.{found}
+use Rattle.request.specs.Reading.{messageOf}
+use Rattle.request.proofs.ReadLaws.{name-is}
+use Rattle.request.proofs.TellLaws.{few-sensors}
+use Rattle.request.proofs.GivenLaws.{as-given}
+use Rattle.request.proofs.EffectLaws.{unknown-effect, declined-effect, accepted-effect, unknown-is, known-is, arguments-fit}
+use Rattle.request.proofs.answer_request.Statement.{statement}
+use Rattle.request.proofs.answer_request.Tie as tie
+
+-- the request of the line's name, as the code found it
+looked-up : (c : tie.After-request-named) → c .request-named .result ≡ found (requestNamed (messageOf (c .before .before .before .before .args .line .now) .name))
+looked-up c =
+    let s = c .before .before .before .before in
+    c .request-named .ensures ∙ ap (λ (n : List ℕ). found (requestNamed n)) (c .before .name .ensures ∙ name-is (s .args .line .now) (s .args .head) (s .pre .read))
+
+name-requires : tie.Need-name-requires
+name-requires c κs = search needs
+
+request-named-requires : tie.Need-request-named-requires
+request-named-requires c κs = search needs
+
+enum-known-request : tie.Need-enum-known-request
+enum-known-request c = search needs
+
+enum-told : tie.Need-enum-told
+enum-told c = search needs
+
+refuse-requires : tie.Need-refuse-requires
+refuse-requires c κs = search needs
+
+same-length : tie.Need-same-length
+same-length c = search needs
+
+returns : tie.Need-returns
+returns c =
+    let s = c .before .before .before .before .before .before .before .before .before .before in
+    let m = messageOf (s .args .line .now) in
+    as-given (unknown-effect (s .args .state) (s .args .client) m (unknown-is (requestNamed (m .name)) (sym (looked-up (c .before .before .before .before .before .before)) ∙ c .before .before .before .before .enum-told .given .1))) (c .before .before .refuse .ensures)
+
+request-row-requires : tie.Need-request-row-requires
+request-row-requires c κs = let s = c .before .before .before .before .before .before .before .before in (s .pre .read, few-sensors (s .args .state) (s .pre .in-range))
+
+refuse-requires-2 : tie.Need-refuse-requires-2
+refuse-requires-2 c κs =
+    let s = c .before .before .before .before .before .before .before .before .before .before .before in
+    let row = c .before .before .request-row .ensures in
+    (s .pre .read, rw row (request-number (s .args .state .sheet) _ (messageOf (s .args .line .now)) (λ z. c .before .if1 .taken (row ∙ z))))
+
+same-length-2 : tie.Need-same-length-2
+same-length-2 c = search needs
+
+returns-2 : tie.Need-returns-2
+returns-2 c =
+    let s = c .before .before .before .before .before .before .before .before .before .before .before .before .before .before in
+    let m = messageOf (s .args .line .now) in
+    as-given (declined-effect (s .args .state) (s .args .client) m _ (known-is (requestNamed (m .name)) _ (sym (looked-up (c .before .before .before .before .before .before .before .before .before .before)) ∙ c .before .before .before .before .before .before .before .before .request .given .1)) (c .before .before .before .before .before .request-row .ensures) (c .before .before .before .before .if1 .taken)) (c .before .before .refuse2 .ensures)
+
+carry-out-requires : tie.Need-carry-out-requires
+carry-out-requires c κs =
+    let s = c .before .before .before .before .before .before .before .before .before .before .before in
+    record { heard = s .pre; fits = arguments-fit (s .args .state .sheet) _ (messageOf (s .args .line .now)) (sym (c .before .before .request-row .ensures) ∙ c .before .if1 .left) }
+
+same-length-3 : tie.Need-same-length-3
+same-length-3 c = search needs
+
+returns-3 : tie.Need-returns-3
+returns-3 c =
+    let s = c .before .before .before .before .before .before .before .before .before .before .before .before .before .before in
+    let m = messageOf (s .args .line .now) in
+    as-given (accepted-effect (s .args .state) (s .args .client) m _ (known-is (requestNamed (m .name)) _ (sym (looked-up (c .before .before .before .before .before .before .before .before .before .before)) ∙ c .before .before .before .before .before .before .before .before .request .given .1)) (sym (c .before .before .before .before .before .request-row .ensures) ∙ c .before .before .before .before .if1 .left)) (c .before .before .carry-out .ensures)
+
+pub answer-request-spec : {M : Type 1} → statement M
+answer-request-spec =
+    tie.close
+    (tie.spec
+    name-requires
+    request-named-requires
+    enum-known-request
+    enum-told
+    refuse-requires
+    same-length
+    returns
+    request-row-requires
+    refuse-requires-2
+    same-length-2
+    returns-2
+    carry-out-requires
+    same-length-3
+    returns-3)

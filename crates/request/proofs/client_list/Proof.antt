@@ -1,0 +1,31 @@
+-- The reply of crate replies, under the name and id of the line; the state is kept.
+use mathlib.Core.Path.{refl}
+use mathlib.Core.List.{map}
+use borrow.Author.Needs.{needs}
+use Rattle.machine.specs.Messages.{clientInform}
+use Rattle.machine.specs.Requests.{addresses, answer}
+use Rattle.request.proofs.TellLaws.{tells}
+use Rattle.request.proofs.client_list.Statement.{statement}
+use Rattle.request.proofs.client_list.Tie as tie
+
+name-requires : tie.Need-name-requires
+name-requires c κs = search needs
+
+client-list-requires : tie.Need-client-list-requires
+client-list-requires c κs = search needs
+
+answered-requires : tie.Need-answered-requires
+answered-requires c κs = search needs
+
+same-length : tie.Need-same-length
+same-length c = search needs
+
+returns : tie.Need-returns
+unfolding answer addresses
+returns c =
+    let s = c .before .before .before .before .before .before .before .before .before in
+    tells (s .args .line .now) (s .args .head) (s .pre) (c .before .before .before .before .before .name .ensures) (s .args .state) (s .args .client) (λ id. map (clientInform id) (addresses (s .args .state))) (c .before .before .before .client-list .ensures) refl (c .answered .ensures)
+
+pub client-list-spec : {M : Type 1} → statement M
+client-list-spec =
+    tie.close (tie.spec name-requires client-list-requires answered-requires same-length returns)
