@@ -1,2 +1,3 @@
+pub mod Delivered
 pub mod ReadingLaws
 pub mod RowLaws

@@ -251,3 +251,11 @@ pub fn log(state: State, level: u8, logger: &[u8], message: &[u8], out: &mut [u8
         state: state,
     }
 }
+
+// A client's line: a request, or why it is none.
+pub fn line(state: State, client: usize, line: &[u8], out: &mut [u8]) -> Answer
+    ensures { λ r. ⌜ r ≡ answerOf (step state (calls.callOf (calls.Line client (now (line .entry))) (now (out .entry)))) ⌝ }
+    ensures { λ r. ⌜ now (out .exit) ≡ outputOf (step state (calls.callOf (calls.Line client (now (line .entry))) (now (out .entry)))) (now (out .entry)) ⌝ }
+{
+    request::respond(state, client, line, out)
+}
