@@ -1,10 +1,9 @@
 -- The calls deliver the machine's run.
 use Prim.Native.Nat.{ℕ}
-use native.Mathlib.Omega.{arith}
 use mathlib.Core.Path.{_≡_, refl, ap, _∙_, subst}
-use mathlib.Core.List.{List, [], _∷_, _++_, map}
-use lib.ListN.{length, take, drop}
-use lib.Seq.{take-append-le, take-length}
+use mathlib.Core.List.{List, [], _∷_, map}
+use lib.ListN.{length, drop}
+use lib.Seq.{take-append-seam}
 use Rattle.machine.specs.declared.State.{State}
 use Rattle.machine.specs.declared.Answer.{Answer}
 use Rattle.machine.specs.declared.Opened.{Opened}
@@ -14,10 +13,6 @@ use Rattle.machine.specs.Machine.{step, written}
 use Rattle.machine.specs.TwoDevices.{after, returned}
 use Rattle.device.specs.Delivered.{Return, Promised, Driven, run, seen, shown, returns, Delivered}
 
--- the bytes that stand at the start of an output
-laid-start : (bs rest : List ℕ) → take (length bs) (bs ++ rest) ≡ bs
-laid-start bs rest = take-append-le (length bs) bs rest (omega arith) ∙ take-length bs
-
 -- a return by its two equations
 both : (r : Return) {a : Answer} {o : List ℕ} → r .answer ≡ a → r .output ≡ o → r ≡ record { answer = a; output = o }
 both r e f = rw (e, f)
@@ -26,7 +21,7 @@ both r e f = rw (e, f)
 promised : (s : State) (call : Call) (r : Return) → Promised s call r → seen r ≡ shown (step s call)
 promised s call r p =
     ap (λ (x : Return). seen x) (both r (p .answer-is) (p .output-is))
-    ∙ ap (λ (bs : List ℕ). record { number = step s call .number; bytes = bs; state = step s call .next }) (laid-start (written (step s call)) (drop (length (written (step s call))) (call .lent)))
+    ∙ ap (λ (bs : List ℕ). record { number = step s call .number; bytes = bs; state = step s call .next }) (take-append-seam (written (step s call)) (drop (length (written (step s call))) (call .lent)))
 
 run-is : (s : State) (calls : List Call) (rs : List Return) → Driven s calls rs → map seen rs ≡ map shown (run s calls)
 run-is s [] [] d = refl

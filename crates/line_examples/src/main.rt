@@ -3,7 +3,6 @@
 use libc::STDIN_FILENO;
 use libc::STDOUT_FILENO;
 use line::Copied;
-use line::Header;
 use line::Parsed;
 
 // The bytes of s in hex, `-` for none, behind a space.

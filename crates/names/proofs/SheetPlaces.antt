@@ -13,7 +13,7 @@ use Rattle.machine.specs.Places.{any, firstBelow, twice, Each}
 use Rattle.machine.specs.Sheet.{sensorOf, nameOf, placeOf, notOnSheet}
 use Rattle.machine.specs.Requests.{allPlaces, split}
 use Rattle.machine.proofs.TestLaws.{passed, cond-cases}
-use Rattle.machine.proofs.PlacesLaws.{length-tabulate, each-weaker, each-any-false}
+use Rattle.machine.proofs.PlacesLaws.{each-weaker, each-any-false}
 use Rattle.machine.proofs.CountLaws.{few-distinct}
 use Rattle.machine.proofs.SheetLaws.{places-below}
 use Rattle.names.specs.declared.Listed.{Listed}
@@ -34,16 +34,6 @@ scanned-few sheet js =
   where
     inside : any (isPast sheet) js ≡ false → Each (λ j. j < 32) js
     inside e = each-weaker (λ j. isPast sheet j ≡ false) (λ j. j < 32) (λ j h. omega (arith, leb-false (held sheet) j h)) js (each-any-false (isPast sheet) js e)
-
-pub told-few : (sheet : Sheet) (named : Bool) (name : List ℕ) → told sheet (placesTold sheet named name) .count ≤ 32
-unfolding told listing placesTold
-told-few sheet named name =
-    cond-cases (λ (l : Listed). l .count ≤ 32) (any (isPast sheet) (placesTold sheet named name)) (listing 16 []) (listing 0 (placesTold sheet named name))
-    (λ e. omega arith) (λ e. few named)
-  where
-    few : (t : Bool) → length (placesTold sheet t name) ≤ 32
-    few true = omega arith
-    few false = omega (arith, length-tabulate (λ j. j) (held sheet))
 
 module _ (sheet : Sheet) (h : sheet .count ≤ 32) where
   pub held-is : held sheet ≡ sheet .count
@@ -113,10 +103,6 @@ module _ (sheet : Sheet) (h : sheet .count ≤ 32) where
 
       pub told-places : placesOf (told sheet js) ≡ js
       told-places = ap placesOf told-is ∙ listing-places 0 js
-
-      pub told-count : told sheet js .count ≡ length js
-      unfolding listing
-      told-count = ap (λ (l : Listed). l .count) told-is
 
       pub told-below : Each (λ j. j < sheet .count) js
       told-below = places-below sheet js passes-told

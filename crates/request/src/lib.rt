@@ -6,7 +6,6 @@ use machine::Answer;
 use machine::Request;
 use machine::Sheet;
 use machine::State;
-use machine::Stored;
 use machine::Strategy;
 use names::Listed;
 use replies::Found;

@@ -1,5 +1,4 @@
 //! Opening a sheet, and the check of a state that every other call begins with.
-use layout::SheetTaken;
 use machine::Client;
 use machine::Opened;
 use machine::Sensor;
