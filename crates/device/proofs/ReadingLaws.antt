@@ -2,8 +2,8 @@
 use Prim.Native.Nat.{ℕ, _<_}
 use native.Mathlib.Omega.{arith}
 use mathlib.Core.Path.{_≡_, sym, _∙_, ap}
-use mathlib.Core.Bool.{Bool, true, false, cond, not}
-use mathlib.Core.List.{List}
+use mathlib.Core.Bool.{Bool, true, cond, not}
+use mathlib.Core.List.{List, [], _∷_}
 use lib.Dec.{leb, ltb}
 use lib.ListN.{length, set}
 use borrow.Author.Tests.{leb-false, not-false}
@@ -15,7 +15,6 @@ use Rattle.machine.specs.Sheet.{sensorOf}
 use Rattle.machine.specs.Range.{inRange}
 use Rattle.machine.specs.Declined.{Reading, actionDeclined, declined}
 use Rattle.machine.specs.Machine.{sampleGiven}
-use Rattle.machine.proofs.TestLaws.{passed}
 use Rattle.machine.proofs.RangeLaws.{range-out, sensors-of}
 use Rattle.value.specs.declared.Sample.{Sample}
 use Rattle.value.specs.declared.Sampled.the-variants.{As}
@@ -23,30 +22,12 @@ use Rattle.machine.specs.declared.Sensor.{Sensor}
 use Rattle.machine.specs.State.{noStored, withReadings, withReading}
 use Rattle.machine.proofs.StoreLaws.{set-by-place}
 use Rattle.declining.proofs.AnswerLaws.{rowsThen, numberOf}
+use Rattle.declining.proofs.RowsLaws.{Row, row, row-declines, rows-pass, rows-rest}
 
 -- Rows 1, 2, 3 and 9, before row 10 is asked.
 
-module _ (a b c d : Bool) (x : ℕ) where
-  -- one of them declines
-  row-declines : {n : ℕ} → n ≡ cond a 1 (cond b 2 (cond c 3 (cond d 9 0))) → (n ≡ 0 → ⊥) → n ≡ cond a 1 (cond b 2 (cond c 3 (cond d 9 x)))
-  row-declines {n} e h = go a b c d e
-    where
-      go : (a b c d : Bool) → n ≡ cond a 1 (cond b 2 (cond c 3 (cond d 9 0))) → n ≡ cond a 1 (cond b 2 (cond c 3 (cond d 9 x)))
-      go true b c d e = e
-      go false true c d e = e
-      go false false true d e = e
-      go false false false true e = e
-      go false false false false e = absurd (h e)
-
-  -- none of them declines
-  rows-pass : _≡_ {A = ℕ} (cond a 1 (cond b 2 (cond c 3 (cond d 9 0)))) 0
-      → (a ≡ false) × ((b ≡ false) × ((c ≡ false) × ((d ≡ false) × (_≡_ {A = ℕ} (cond a 1 (cond b 2 (cond c 3 (cond d 9 x)))) x))))
-  rows-pass e =
-      let f = passed a 1 _ (omega arith) e in
-      let g = passed b 2 _ (omega arith) (f .1) in
-      let h = passed c 3 _ (omega arith) (g .1) in
-      let k = passed d 9 0 (omega arith) (h .1) in
-      (f .0, (g .0, (h .0, (k .0, rw (f .0, g .0, h .0, k .0)))))
+abbrev before : State → ℕ → List ℕ → List Row
+before s j lent = row (not (inRange s)) 1 ∷ row (ltb (length lent) 65536) 2 ∷ row (s .halted) 3 ∷ row (leb (s .sheet .count) j) 9 ∷ []
 
 -- row 10
 abbrev pub unfitRow : State → ℕ → Given → ℕ
@@ -57,15 +38,15 @@ module _ (s : State) (j : ℕ) (r : Given) (lent : List ℕ) where
   pub reading-declined : {good : Bool} {own n : ℕ} → good ≡ inRange s → own ≡ cond (leb (s .sheet .count) j) 9 0 → n ≡ rowsThen good s lent own → (n ≡ 0 → ⊥)
       → numberOf s (Reading j r) lent ≡ n
   unfolding declined actionDeclined
-  reading-declined g f e h = sym (row-declines (not (inRange s)) (ltb (length lent) 65536) (s .halted) (leb (s .sheet .count) j) (unfitRow s j r) (e ∙ rw (g, f)) h)
+  reading-declined g f e h = sym (row-declines (before s j lent) (unfitRow s j r) (e ∙ rw (g, f)) h)
 
   -- the call `reading`, not declined before row 10: the sensor is on the sheet, and row 10 says the number
   pub reading-own : {good : Bool} {own n : ℕ} → good ≡ inRange s → own ≡ cond (leb (s .sheet .count) j) 9 0 → n ≡ rowsThen good s lent own → n ≡ 0
       → (inRange s ≡ true) × ((j < s .sheet .count) × (numberOf s (Reading j r) lent ≡ unfitRow s j r))
   unfolding declined actionDeclined
   reading-own g f e h =
-      let p = rows-pass (not (inRange s)) (ltb (length lent) 65536) (s .halted) (leb (s .sheet .count) j) (unfitRow s j r) (sym (e ∙ rw (g, f)) ∙ h) in
-      (not-false (inRange s) (p .0), (leb-false (s .sheet .count) j (p .1 .1 .1 .0), p .1 .1 .1 .1))
+      let p = rows-pass (before s j lent) (omega arith, (omega arith, (omega arith, (omega arith, tt)))) (sym (e ∙ rw (g, f)) ∙ h) in
+      (not-false (inRange s) (p .0), (leb-false (s .sheet .count) j (p .1 .1 .1 .0), rows-rest (before s j lent) (unfitRow s j r) p))
 
   -- and has its place in the arrays
   pub reading-place : {good : Bool} {own n : ℕ} → good ≡ inRange s → own ≡ cond (leb (s .sheet .count) j) 9 0 → n ≡ rowsThen good s lent own → n ≡ 0 → j < 32

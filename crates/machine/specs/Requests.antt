@@ -18,13 +18,14 @@ use Rattle.machine.specs.declared.Sensor.{Sensor}
 use Rattle.machine.specs.declared.Sheet.{Sheet}
 use Rattle.machine.specs.declared.Strategy.{Strategy}
 use Rattle.machine.specs.declared.Strategy.the-variants.{None, Auto, Period, Event, Differential, EventRate, DifferentialRate}
+use Rattle.machine.specs.declared.Client.{Client}
 use Rattle.machine.specs.declared.Subscription.{Subscription}
 use Rattle.machine.specs.declared.State.{State}
 use Rattle.machine.specs.declared.Request.{Request}
 use Rattle.machine.specs.declared.Request.the-variants.{ClientList, Halt, Help, LogLevel, Restart, SensorList, SensorSampling, SensorValue, VersionList, Watchdog}
 use Rattle.machine.specs.Places.{tabulate, gather, oneIf, any, firstBelow, has}
 use Rattle.machine.specs.Sheet.{sensorOf, placeOf}
-use Rattle.machine.specs.State.{present, clientOf, connected, addressOf, pairAt, pairOf, withPairs, withLevel, emptied, startLevel}
+use Rattle.machine.specs.State.{noClient, present, addressOf, pairAt, pairOf, withPairs, withLevel, emptied, startLevel}
 use Rattle.machine.specs.Range.{isNone}
 use Rattle.machine.specs.Messages
 use Rattle.machine.specs.Report.{Work}
@@ -227,9 +228,13 @@ endConnections s c m why halted level = record {
   next = emptied s halted level;
 }
 
--- the addresses of the clients, in client order
+-- the addresses of the connected among the first n clients, in client order
+abbrev pub addressesBelow : List Client → ℕ → List (List ℕ)
+addressesBelow clients n = gather (λ c. oneIf (getD clients c noClient .connected) (addressOf (getD clients c noClient))) n
+
+-- of all
 unfoldable pub addresses : State → List (List ℕ)
-addresses s = gather (λ c. oneIf (connected s c) (addressOf (clientOf s c))) 8
+addresses s = addressesBelow (s .clients) 8
 
 -- the level that a request sets, or the present one where it names none
 abbrev pub levelAsked : State → Message → ℕ

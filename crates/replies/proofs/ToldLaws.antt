@@ -15,7 +15,8 @@ use Rattle.machine.specs.Places.{gather, oneIf}
 use Rattle.machine.specs.State.{noClient, addressOf}
 use Rattle.machine.specs.Messages.{clientInform, countReply, countedAnswer, allTo}
 use Rattle.machine.proofs.PlacesLaws.{gather-length}
-use Rattle.replies.specs.Asking.{asking, addressesBelow}
+use Rattle.machine.specs.Requests.{addressesBelow}
+use Rattle.replies.specs.Asking.{asking}
 
 -- the informs, then the reply with their count
 pub counted : {p q r : Output} {c id n : ℕ} {name : List ℕ} (informs : List Message)

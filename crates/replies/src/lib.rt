@@ -15,9 +15,9 @@ ghost use Rattle.machine.specs.Places.{oneIf, tabulate};
 ghost use Rattle.machine.specs.Sheet.{optionOf};
 ghost use Rattle.machine.specs.State.{addressOf};
 ghost use Rattle.machine.specs.Messages as messages;
-ghost use Rattle.machine.specs.Requests.{Row, requests, requestNamed};
+ghost use Rattle.machine.specs.Requests.{Row, requests, requestNamed, addressesBelow};
 ghost use Rattle.machine.specs.Declined.{countFits};
-ghost use Rattle.replies.specs.Asking.{asking, found, addressesBelow, namesTold};
+ghost use Rattle.replies.specs.Asking.{asking, found, namesTold};
 
 // How far an output is written, and how many informs that were.
 pub struct Told {

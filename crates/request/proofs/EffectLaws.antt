@@ -3,12 +3,12 @@ use Prim.Native.Nat.{ℕ, zero, suc, _≤_, _<_}
 use Prim.Native.Char.{code}
 use native.Mathlib.Omega.{arith}
 use mathlib.Core.Path.{_≡_, refl, sym, _∙_, ap}
-use mathlib.Core.Bool.{Bool, true, false, cond, not}
-use mathlib.Core.List.{List, []}
+use mathlib.Core.Bool.{Bool, true, false, not}
+use mathlib.Core.List.{List, [], _∷_}
 use mathlib.Core.Option.{Option, none, some}
 use lib.Dec.{ltb}
 use lib.ListN.{length}
-use borrow.Author.Tests.{ne-eqb, ltb-false, le-ltb}
+use borrow.Author.Tests.{not-false, ne-eqb, ltb-false, le-ltb, lt-ltb}
 use Rattle.output.specs.Text.{text}
 use Rattle.message.specs.Message.{Message}
 use Rattle.line.specs.declared.Header.{Header}
@@ -29,6 +29,7 @@ use Rattle.machine.proofs.TestLaws.{passed}
 use Rattle.machine.proofs.LineNumbers.{line-number}
 use Rattle.replies.specs.declared.Found.the-variants as F
 use Rattle.replies.specs.Asking.{found}
+use Rattle.declining.proofs.RowsLaws.{Row, row, rowsOr, row-declines, row-below, rows-pass, rows-rest}
 use Rattle.declining.proofs.AnswerLaws.{rowsThen, numberOf, Answers, answers}
 use Rattle.request.specs.Reading.{messageOf, IsRead}
 use Rattle.request.proofs.ReadLaws.{message-is}
@@ -107,30 +108,12 @@ arguments-fit sheet r m e = passed (not (countFits r (length (m .args)))) 15 (ar
 
 -- Rows 1, 2, 3, 5 and 6, before the line's own.
 
-abbrev rowOr : Bool → Bool → Bool → Bool → Bool → ℕ → ℕ
-rowOr a b d e f rest = cond (not a) 1 (cond b 2 (cond d 3 (cond e 5 (cond f 6 rest))))
-
--- one of them declines
-row-declines : (a b d e f : Bool) (rest : ℕ) {n : ℕ} → n ≡ rowOr a b d e f 0 → (n ≡ 0 → ⊥) → (rowOr a b d e f rest ≡ n) × (ltb n 12 ≡ true)
-row-declines false b d e f rest q h = (sym q, rw q)
-row-declines true true d e f rest q h = (sym q, rw q)
-row-declines true false true e f rest q h = (sym q, rw q)
-row-declines true false false true f rest q h = (sym q, rw q)
-row-declines true false false false true rest q h = (sym q, rw q)
-row-declines true false false false false rest q h = absurd (h q)
-
--- none does
-rows-pass : (a b d e f : Bool) (rest : ℕ) → rowOr a b d e f 0 ≡ 0 → (rowOr a b d e f rest ≡ rest) × (a ≡ true) × (b ≡ false) × (e ≡ false)
-rows-pass false b d e f rest q = absurd (omega arith)
-rows-pass true true d e f rest q = absurd (omega arith)
-rows-pass true false true e f rest q = absurd (omega arith)
-rows-pass true false false true f rest q = absurd (omega arith)
-rows-pass true false false false true rest q = absurd (omega arith)
-rows-pass true false false false false rest q = (refl, refl, refl, refl)
+abbrev before : State → ℕ → List ℕ → List Row
+before s c lent = row (not (inRange s)) 1 ∷ row (ltb (length lent) 65536) 2 ∷ row (s .halted) 3 ∷ row (ltb 7 c) 5 ∷ row (not (connected s c)) 6 ∷ []
 
 module _ (s : State) (c : ℕ) (line lent : List ℕ) {good refused : Bool} {own n : ℕ}
     (g : good ≡ inRange s) (f : refused ≡ not (connected s c)) (o : own ≡ clientDeclined refused c 0) (e : n ≡ rowsThen good s lent own) where
-  row-numbers : n ≡ rowOr (inRange s) (ltb (length lent) 65536) (s .halted) (ltb 7 c) (not (connected s c)) 0
+  row-numbers : n ≡ rowsOr (before s c lent) 0
   unfolding clientDeclined
   row-numbers = e ∙ rw (g, o, f)
 
@@ -138,15 +121,15 @@ module _ (s : State) (c : ℕ) (line lent : List ℕ) {good refused : Bool} {own
   pub declines : (n ≡ 0 → ⊥) → (numberOf s (Line c line) lent ≡ n) × (refusal s n (Line c line) ≡ [])
   unfolding declined actionDeclined clientDeclined refusal
   declines h =
-      let q = row-declines (inRange s) (ltb (length lent) 65536) (s .halted) (ltb 7 c) (not (connected s c)) (lineDeclined (s .sheet) (asked line)) row-numbers h in
-      (q .0, rw (q .1))
+      let below = row-below 12 (before s c lent) (omega arith) (omega arith, (omega arith, (omega arith, (omega arith, (omega arith, tt))))) in
+      (sym (row-declines (before s c lent) (lineDeclined (s .sheet) (asked line)) row-numbers h), rw (lt-ltb n 12 (omega (arith, below, row-numbers))))
 
   -- the line's own rows decide
   pub passes : n ≡ 0 → (numberOf s (Line c line) lent ≡ lineDeclined (s .sheet) (asked line)) × (inRange s ≡ true) × (65536 ≤ length lent) × (c < 8)
   unfolding declined actionDeclined clientDeclined
   passes h =
-      let q = rows-pass (inRange s) (ltb (length lent) 65536) (s .halted) (ltb 7 c) (not (connected s c)) (lineDeclined (s .sheet) (asked line)) (sym row-numbers ∙ h) in
-      (q .0, q .1, ltb-false (length lent) 65536 (q .2), omega (arith, ltb-false 7 c (q .3)))
+      let p = rows-pass (before s c lent) (omega arith, (omega arith, (omega arith, (omega arith, (omega arith, tt))))) (sym row-numbers ∙ h) in
+      (rows-rest (before s c lent) (lineDeclined (s .sheet) (asked line)) p, not-false (inRange s) (p .0), ltb-false (length lent) 65536 (p .1 .0), omega (arith, ltb-false 7 c (p .1 .1 .1 .0)))
 
 -- a line whose own rows decide comes to what it asks
 pub step-is : (s : State) (c : ℕ) (line lent : List ℕ) → numberOf s (Line c line) lent ≡ lineDeclined (s .sheet) (asked line) → step s (callOf (Line c line) lent) ≡ lineEffect s c (asked line)

@@ -22,12 +22,13 @@ use Rattle.line.specs.Argument as lines
 use Rattle.machine.specs.declared.Sheet.{Sheet}
 use Rattle.machine.specs.declared.Request.{Request}
 use Rattle.machine.specs.declared.Request.the-variants.{Help, LogLevel}
-use Rattle.machine.specs.Places.{any, twice}
+use Rattle.machine.specs.Places.{any, twice, Each}
 use Rattle.machine.specs.Sheet.{placeOf, notOnSheet}
 use Rattle.machine.specs.State.{blankSheet}
 use Rattle.machine.specs.Requests.{Asks, argument, askedPlaces, requestNamed, levelOf, split, listed, strategyNamed, kindAsked, parametersOf, strategyMade}
 use Rattle.machine.specs.Declined.{countFits, helpDeclined, settingDeclined, samplingDeclined, argumentsDeclined, lineDeclined}
 use Rattle.machine.proofs.TestLaws.{cond-not, cond-either, cond-true, cond-false, cond-ap}
+use Rattle.declining.proofs.RowsLaws.{Row, row, row-declines, rows-pass, rows-rest}
 use Rattle.names.specs.declared.Listed.{Listed}
 use Rattle.names.specs.Scan.{placesOf, scanned, placesNamed, placesTold}
 use Rattle.names.proofs.SheetPlaces.{named-are, told-are, scanned-number, scanned-places, scanned-count}
@@ -35,7 +36,7 @@ use Rattle.strategies.specs.declared.Setting.{Setting}
 use Rattle.strategies.specs.Settings.{settingOf}
 use Rattle.replies.specs.declared.Found.{Found}
 use Rattle.replies.specs.declared.Found.the-variants as F
-use Rattle.replies.specs.Asking.{found}
+use Rattle.replies.specs.Asking.{found, foundNumber}
 use Rattle.request.specs.Reading.{messageOf, IsRead}
 use Rattle.request.proofs.ReadLaws.{count-is, argument-is}
 
@@ -107,11 +108,7 @@ module _ (line : List ℕ) (k : ℕ) (into : List ℕ) (h : (length line ≤ 204
 -- The rows.
 
 -- row 23 or none, by the code's answer for a name
-abbrev foundRow : Found → ℕ
-foundRow (F.Is r) = 0
-foundRow F.Unknown = 23
-
-found-row : (o : Option Request) → foundRow (found o) ≡ helpDeclined o
+found-row : (o : Option Request) → foundNumber 23 (found o) ≡ helpDeclined o
 found-row none = refl
 found-row (some r) = refl
 
@@ -135,15 +132,8 @@ module _ (m : Message) {r : ℕ} (e : r ≡ cond (eqb (length (m .args)) 0) 0 (l
   level-unknown l = sym (cond-true (leb 8 r) 22 0 (le-leb 8 r l)) ∙ level-declined
 
 -- the first two rows of `sensor-sampling`, before the others
-rows-first : (a b : Bool) (rest : ℕ) {n : ℕ} → n ≡ cond a 16 (cond b 21 0) → (n ≡ 0 → ⊥) → n ≡ cond a 16 (cond b 21 rest)
-rows-first true b rest e ne = e
-rows-first false true rest e ne = e
-rows-first false false rest e ne = absurd (ne e)
-
-rows-passed : (a b : Bool) (rest : ℕ) {n : ℕ} → n ≡ cond a 16 (cond b 21 0) → n ≡ 0 → rest ≡ cond a 16 (cond b 21 rest)
-rows-passed true b rest e z = absurd (omega arith)
-rows-passed false true rest e z = absurd (omega arith)
-rows-passed false false rest e z = refl
+abbrev listRows : Sheet → List ℕ → List Row
+listRows sheet js = row (any (notOnSheet sheet) js) 16 ∷ row (twice js) 21 ∷ []
 
 module _ (line : List ℕ) (head : Header) (h : IsRead line head) where
   abbrev m : Message
@@ -168,9 +158,9 @@ module _ (line : List ℕ) (head : Header) (h : IsRead line head) where
     given = q ∙ argument-is line head h 0
 
     module _ (ne : head .count ≡ 0 → ⊥) where
-      pub help-named : {f g : Found} → f ≡ found (requestNamed t) → f ≡ g → foundRow g ≡ argumentsDeclined blankSheet Help m
+      pub help-named : {f g : Found} → f ≡ found (requestNamed t) → f ≡ g → foundNumber 23 g ≡ argumentsDeclined blankSheet Help m
       unfolding argumentsDeclined
-      help-named e u = rw (some-given ne, ← given) (ap foundRow (sym u ∙ e) ∙ found-row (requestNamed t))
+      help-named e u = rw (some-given ne, ← given) (ap (foundNumber 23) (sym u ∙ e) ∙ found-row (requestNamed t))
 
       pub level-named : (level : ℕ) {r : ℕ} → r ≡ levelOf t → r ≡ cond (eqb (length (m .args)) 0) level (levelOf (argument m 0))
       level-named level e = rw (some-given ne, ← given) e
@@ -198,9 +188,12 @@ module _ (line : List ℕ) (head : Header) (h : IsRead line head) where
 
     pub sampling-first : (list .number ≡ 0 → ⊥) → list .number ≡ samplingDeclined sheet m
     unfolding samplingDeclined
-    sampling-first ne = rows-first (any (notOnSheet sheet) (listed sheet m)) (twice (listed sheet m)) _ number-is ne
+    sampling-first ne = row-declines (listRows sheet (listed sheet m)) _ number-is ne
 
     module _ (z : list .number ≡ 0) where
+      list-passes : Each (λ (r : Row). r .declines ≡ false) (listRows sheet (listed sheet m))
+      list-passes = rows-pass (listRows sheet (listed sheet m)) (omega arith, (omega arith, tt)) (sym number-is ∙ z)
+
       zero-is : scanned sheet (listed sheet m) .number ≡ 0
       zero-is = ap (λ (l : Listed). l .number) (sym e) ∙ z
 
@@ -217,7 +210,7 @@ module _ (line : List ℕ) (head : Header) (h : IsRead line head) where
           q
           ∙ ap (λ n. cond (ltb 1 n) 15 0) (places-many ∙ ap length places-are)
           ∙ sym (cond-true (eqb (length (m .args)) 1) _ _ (eq-eqb (length (m .args)) 1 (sym (count-is line head h) ∙ o)))
-          ∙ rows-passed (any (notOnSheet sheet) (listed sheet m)) (twice (listed sheet m)) _ number-is z
+          ∙ sym (rows-rest (listRows sheet (listed sheet m)) _ list-passes)
 
       -- a list with one
       pub sampling-set : {r : Setting} → (head .count ≡ 1 → ⊥) → r ≡ settingOf sheet (placesOf list) (kindAsked m) (length (m .args)) (drop 2 (m .args)) → r .number ≡ samplingDeclined sheet m
@@ -226,7 +219,7 @@ module _ (line : List ℕ) (head : Header) (h : IsRead line head) where
           ap (λ (s : Setting). s .number) q
           ∙ ap (λ js. settingDeclined sheet js (kindAsked m) (length (m .args)) (drop 2 (m .args))) places-are
           ∙ sym (cond-false (eqb (length (m .args)) 1) _ _ (ne-eqb (length (m .args)) 1 (λ o. ne (count-is line head h ∙ o))))
-          ∙ rows-passed (any (notOnSheet sheet) (listed sheet m)) (twice (listed sheet m)) _ number-is z
+          ∙ sym (rows-rest (listRows sheet (listed sheet m)) _ list-passes)
 
 -- the rows of a request
 module _ (sheet : Sheet) (r : Request) (m : Message) {b : Bool} (e : b ≡ countFits r (length (m .args))) where

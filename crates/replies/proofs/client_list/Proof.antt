@@ -3,7 +3,7 @@ use mathlib.Core.Path.{sym, _∙_}
 use lib.ListN.{length-map}
 use borrow.Author.Needs.{needs}
 use Rattle.machine.specs.Messages.{clientInform}
-use Rattle.replies.specs.Asking.{addressesBelow}
+use Rattle.machine.specs.Requests.{addressesBelow}
 use Rattle.replies.proofs.ToldLaws.{counted}
 use Rattle.replies.proofs.client_list.Statement.{statement}
 use Rattle.replies.proofs.client_list.Tie as tie
