@@ -9,5 +9,5 @@ pub mod CopyLaws
 pub mod Carried
 pub mod ReadBack
 pub mod Edges
-pub mod FirstLine
+pub mod BeforeLaws
 pub mod ParsedHead

@@ -494,13 +494,13 @@ pub fn name(line: &[u8], n: usize) -> &[u8]
     output::prefix(&line[1..], n)
 }
 
-// The length of the first line in `s`: the bytes before the first byte 10, or all of them.
-pub fn line_len(s: &[u8]) -> usize
-    ensures { λ r. ⌜ r ≡ length (upTo 10 (now (s .entry))) ⌝ }
+// How many bytes of `s` stand before its first byte `stop`; all of them where it has none.
+pub fn len_before(s: &[u8], stop: u8) -> usize
+    ensures { λ r. ⌜ r ≡ length (upTo stop (now (s .entry))) ⌝ }
 {
     let mut i = 0;
     while i < s.len() {
-        if s[i] == 10 {
+        if s[i] == stop {
             return i;
         }
         i += 1;

@@ -337,7 +337,7 @@ fn show_lines(s: &[u8], first: State, blank: State) {
     let mut state = first;
     let mut at = 0;
     while at < s.len() {
-        let e = at + line::line_len(&s[at..]);
+        let e = at + line::len_before(&s[at..], 10);
         let next = show(&s[at..e], state, blank);
         state = next;
         at = e + 1;

@@ -306,7 +306,7 @@ pub enum Parameter {
 }
 
 // How many digits t starts with.
-fn digits_len(t: &[u8]) -> usize
+pub fn digits_len(t: &[u8]) -> usize
     ensures { λ r. ⌜ r ≡ length (whole (now (t .entry))) ⌝ }
 {
     let mut i = 0;
@@ -329,28 +329,28 @@ fn digit_of(b: u8) -> u64
     (b - b'0') as u64
 }
 
-// n and one digit more, 10^10 at most.
-fn with_digit(n: u64, b: u8) -> u64
-    ensures { λ r. ⌜ r ≡ min (n * 10 + (b - 48)) 10000000000 ⌝ }
+// n and one digit more, `most` at most.
+fn with_digit(n: u64, b: u8, most: u64) -> u64
+    ensures { λ r. ⌜ r ≡ min (n * 10 + (b - 48)) most ⌝ }
 {
-    if 1000000000 < n {
-        return 10000000000;
+    let d = digit_of(b);
+    if most < d {
+        return most;
     }
-    let more = n * 10 + digit_of(b);
-    if 10000000000 < more {
-        return 10000000000;
+    if (most - d) / 10 < n {
+        return most;
     }
-    more
+    n * 10 + d
 }
 
-// The number that digits make, 10^10 at most.
-fn digits_value(t: &[u8]) -> u64
-    ensures { λ r. ⌜ r ≡ min (valueFrom 0 (now (t .entry))) 10000000000 ⌝ }
+// The number that digits make, `most` at most.
+pub fn digits_value(t: &[u8], most: u64) -> u64
+    ensures { λ r. ⌜ r ≡ min (valueFrom 0 (now (t .entry))) most ⌝ }
 {
     let mut n: u64 = 0;
     let mut i = 0;
     while i < t.len() {
-        n = with_digit(n, t[i]);
+        n = with_digit(n, t[i], most);
         i += 1;
     }
     n
@@ -371,7 +371,7 @@ fn scaled(n: u64, places: usize) -> u64
 }
 
 // Digits before the point, without leading zeros.
-fn whole_ok(w: &[u8]) -> bool
+pub fn whole_ok(w: &[u8]) -> bool
     ensures { λ r. ⌜ r ≡ wholeOk (now (w .entry)) ⌝ }
 {
     if w.len() == 0 {
@@ -416,8 +416,8 @@ fn read_decimal(t: &[u8], places: usize, least: u64, most: u64) -> Parameter
     if places < fraction.len() {
         return Parameter::Bad;
     }
-    let high = scaled(digits_value(whole), places);
-    let number = high + scaled(digits_value(fraction), places - fraction.len());
+    let high = scaled(digits_value(whole, 10000000000), places);
+    let number = high + scaled(digits_value(fraction, 10000000000), places - fraction.len());
     if (number < least) | (most < number) {
         return Parameter::Bad;
     }

@@ -122,7 +122,7 @@ fn show(text: &[u8]) {
 fn show_lines(s: &[u8]) {
     let mut at = 0;
     while at < s.len() {
-        let e = at + line::line_len(&s[at..]);
+        let e = at + line::len_before(&s[at..], 10);
         show(&s[at..e]);
         at = e + 1;
     }

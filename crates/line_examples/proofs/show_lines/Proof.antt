@@ -3,7 +3,7 @@ use borrow.Author.Needs.{needs}
 use native.Mathlib.Omega.{arith}
 use Prim.Native.Nat.{_≤_, _-_, _+_}
 use lib.ListN.{length}
-use Rattle.line.proofs.FirstLine.{first-line-fits}
+use Rattle.line.proofs.BeforeLaws.{before-fits}
 use Rattle.line_examples.proofs.show_lines.Statement.{statement}
 use Rattle.line_examples.proofs.show_lines.Tie as tie
 
@@ -14,23 +14,23 @@ abbrev μ-loop : tie.MeasureT-loop
 μ-loop s at₀ at = length s + 1 - at
 
 -- the line that starts at `at` ends within the text
-ends : (c : tie.After-line-len Inv-loop μ-loop) → c .before .before .before .loop .at + c .line-len .result ≤ length (c .before .before .before .before .before .args .s .now)
-ends c = first-line-fits (c .before .before .before .before .before .args .s .now) (c .before .before .before .loop .at) (c .line-len .result) (omega arith) (c .line-len .ensures)
+ends : (c : tie.After-len-before Inv-loop μ-loop) → c .before .before .before .loop .at + c .len-before .result ≤ length (c .before .before .before .before .before .args .s .now)
+ends c = before-fits 10 (c .before .before .before .before .before .args .s .now) (c .before .before .before .loop .at) (c .len-before .result) (omega arith) (c .len-before .ensures)
 
 loop-holds : tie.Need-loop-holds Inv-loop μ-loop
 loop-holds c = search needs
 
-sub-line-len : tie.Need-sub-line-len Inv-loop μ-loop
-sub-line-len c = search needs
+sub-len-before : tie.Need-sub-len-before Inv-loop μ-loop
+sub-len-before c = search needs
 
-part-line-len-start : tie.Need-part-line-len-start Inv-loop μ-loop
-part-line-len-start c = search needs
+part-len-before-start : tie.Need-part-len-before-start Inv-loop μ-loop
+part-len-before-start c = search needs
 
-part-line-len-end : tie.Need-part-line-len-end Inv-loop μ-loop
-part-line-len-end c = search needs
+part-len-before-end : tie.Need-part-len-before-end Inv-loop μ-loop
+part-len-before-end c = search needs
 
-line-len-requires : tie.Need-line-len-requires Inv-loop μ-loop
-line-len-requires c κs = search needs
+len-before-requires : tie.Need-len-before-requires Inv-loop μ-loop
+len-before-requires c κs = search needs
 
 add-e : tie.Need-add-e Inv-loop μ-loop
 add-e c = omega (arith, ends c)
@@ -66,10 +66,10 @@ show-lines-spec =
     Inv-loop
     μ-loop
     loop-holds
-    sub-line-len
-    part-line-len-start
-    part-line-len-end
-    line-len-requires
+    sub-len-before
+    part-len-before-start
+    part-len-before-end
+    len-before-requires
     add-e
     sub-show
     part-show-start

@@ -1,4 +1,4 @@
--- The invariant: the number so far and the digits of the rest make the number of the text, 10^10 at most. The measure is what is left.
+-- The invariant: the number so far and the digits of the rest make the number of the text, `most` at most. The measure is what is left.
 use Prim.Native.Nat.{ℕ, _+_, _-_, _≤_, min}
 use mathlib.Core.Path.{_≡_, ap, sym, _∙_}
 use native.Mathlib.Nat.{min-eq-left}
@@ -11,10 +11,10 @@ use Rattle.value.proofs.digits_value.Statement.{statement}
 use Rattle.value.proofs.digits_value.Tie as tie
 
 abbrev Inv-loop : tie.InvT-loop
-Inv-loop t n₀ i₀ n i = (i ≤ length t) × (n ≤ 10000000000) × (min (valueFrom n (drop i t)) 10000000000 ≡ min (valueFrom 0 t) 10000000000)
+Inv-loop t most n₀ i₀ n i = (i ≤ length t) × (n ≤ most) × (min (valueFrom n (drop i t)) most ≡ min (valueFrom 0 t) most)
 
 abbrev μ-loop : tie.MeasureT-loop
-μ-loop t n₀ i₀ n i = length t - i
+μ-loop t most n₀ i₀ n i = length t - i
 
 loop-holds : tie.Need-loop-holds Inv-loop μ-loop
 loop-holds c = search needs
@@ -35,12 +35,13 @@ loop-again : tie.Need-loop-again Inv-loop μ-loop
 loop-again c =
     let l = c .before .before .before in
     let t = l .before .before .args .t .now in
-    (omega arith, omega arith, ap (λ (n : ℕ). min (valueFrom n (drop (l .loop .i + 1) t)) 10000000000) (c .with-digit .ensures) ∙ value-more 10000000000 t (l .loop .i) (l .loop .n) (omega arith) ∙ l .loop .inv .2)
+    let most = l .before .before .args .most in
+    (omega arith, omega arith, ap (λ (n : ℕ). min (valueFrom n (drop (l .loop .i + 1) t)) most) (c .with-digit .ensures) ∙ value-more most t (l .loop .i) (l .loop .n) (omega arith) ∙ l .loop .inv .2)
 
 returns : tie.Need-returns Inv-loop μ-loop
 returns c =
     let h = value-end (c .before .before .before .args .t .now) (c .before .loop .i) (c .before .loop .n) (omega arith) in
-    sym (min-eq-left (c .before .loop .inv .1)) ∙ ap (λ (n : ℕ). min n 10000000000) (sym h) ∙ c .before .loop .inv .2
+    sym (min-eq-left (c .before .loop .inv .1)) ∙ ap (λ (n : ℕ). min n (c .before .before .before .args .most)) (sym h) ∙ c .before .loop .inv .2
 
 pub digits-value-spec : {M : Type 1} → statement M
 digits-value-spec =
