@@ -1,0 +1,4 @@
+pub mod SpaceLaws
+pub mod MoveLaws
+pub mod NumberLaws
+pub mod SignedLaws

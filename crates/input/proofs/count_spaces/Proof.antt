@@ -1,0 +1,58 @@
+-- The invariant: the spaces counted, and those from i on, are those of the line. The measure is what is left.
+use borrow.Author.Needs.{needs}
+use Prim.Native.Nat.{_+_, _-_, _≤_}
+use mathlib.Core.Path.{_≡_}
+use mathlib.Core.Logic.{⊎-elim}
+use native.Mathlib.Omega.{arith}
+use lib.ListN.{length, drop}
+use Rattle.input.specs.Words.{spaces}
+use Rattle.input.proofs.SpaceLaws as space
+use Rattle.input.proofs.count_spaces.Statement.{statement}
+use Rattle.input.proofs.count_spaces.Tie as tie
+
+abbrev Inv-loop : tie.InvT-loop
+Inv-loop line n₀ i₀ n i = (i ≤ length line) × (n ≤ i) × (n + spaces (drop i line) ≡ spaces line)
+
+abbrev μ-loop : tie.MeasureT-loop
+μ-loop line n₀ i₀ n i = length line - i
+
+loop-holds : tie.Need-loop-holds Inv-loop μ-loop
+loop-holds c = omega arith
+
+shared-slice-read-if1 : tie.Need-shared-slice-read-if1 Inv-loop μ-loop
+shared-slice-read-if1 c = search needs
+
+add-n : tie.Need-add-n Inv-loop μ-loop
+add-n c = search needs
+
+add-i : tie.Need-add-i Inv-loop μ-loop
+add-i c = search needs
+
+loop-less : tie.Need-loop-less Inv-loop μ-loop
+loop-less c = search needs
+
+loop-again : tie.Need-loop-again Inv-loop μ-loop
+loop-again c =
+    let l = c .before .before .before in
+    let s = l .before .args .line .now in
+    ⊎-elim
+    (λ w. omega (arith, space.space-here s (l .loop .i) (omega arith) (w .0 .taken)))
+    (λ w. omega (arith, space.space-not s (l .loop .i) (omega arith) (w .0 .left)))
+    (c .if1 .came)
+
+returns : tie.Need-returns Inv-loop μ-loop
+returns c = omega (arith, space.space-over (c .before .before .args .line .now) (c .before .loop .i) (c .loop-test .left))
+
+pub count-spaces-spec : {M : Type 1} → statement M
+count-spaces-spec =
+    tie.close
+    (tie.spec
+    Inv-loop
+    μ-loop
+    loop-holds
+    shared-slice-read-if1
+    add-n
+    add-i
+    loop-less
+    loop-again
+    returns)

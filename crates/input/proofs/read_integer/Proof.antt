@@ -1,0 +1,41 @@
+-- What the machine has after each cast.
+use borrow.Author.Needs.{needs}
+use mathlib.Core.Path.{_≡_, sym, _∙_}
+use Rattle.output.specs.Read.{readInteger}
+use Rattle.input.specs.declared.Number.the-variants.{Is}
+use Rattle.input.specs.Words.{numberOf}
+use Rattle.input.proofs.SignedLaws as signed
+use Rattle.input.proofs.read_integer.Statement.{statement}
+use Rattle.input.proofs.read_integer.Tie as tie
+
+read-biased-requires : tie.Need-read-biased-requires
+read-biased-requires c κs = search needs
+
+enum-known-v : tie.Need-enum-known-v
+enum-known-v c = search needs
+
+enum-told : tie.Need-enum-told
+enum-told c = search needs
+
+returns : tie.Need-returns
+returns c = signed.no-integer (readInteger (c .before .before .before .before .args .t .now)) (sym (c .enum-told .given .1) ∙ c .before .before .read-biased .ensures)
+
+is : (c : tie.After-known-told) → Is (c .before .v .given .0 .0) ≡ numberOf (readInteger (c .before .before .before .before .before .args .t .now))
+is c = sym (c .before .v .given .1) ∙ c .before .before .before .read-biased .ensures
+
+cast-t4 : tie.Need-cast-t4
+cast-t4 c = signed.wide-fits (c .before .before .before .before .before .args .t .now) _ (is c)
+
+sub-t5 : tie.Need-sub-t5
+sub-t5 c = signed.less-fits (c .before .before .before .before .before .args .t .now) _ (is c)
+
+cast-t6 : tie.Need-cast-t6
+cast-t6 c = signed.narrow-fits (c .before .before .before .before .before .args .t .now) _ (is c)
+
+returns-2 : tie.Need-returns-2
+returns-2 c = signed.integer-is (c .before .before .before .before .before .args .t .now) _ (is c)
+
+pub read-integer-spec : {M : Type 1} → statement M
+read-integer-spec =
+    tie.close
+    (tie.spec read-biased-requires enum-known-v enum-told returns cast-t4 sub-t5 cast-t6 returns-2)

@@ -1,0 +1,47 @@
+-- The lines that the programs read: words with one space between them, and decimals among the words.
+use Prim.Native.Nat.{ℕ, zero, suc, _-_, _^_}
+use Prim.Native.Char.{code}
+use mathlib.Core.Bool.{Bool, false, cond, _&&_}
+use mathlib.Core.List.{List, [], _∷_}
+use mathlib.Core.Option.{Option, none, some}
+use lib.Dec.{eqb, ltb}
+use lib.IntN.{ℤ, pos, negsuc}
+use Rattle.output.specs.Text.{isDigit, all}
+use Rattle.output.specs.Read.{upTo, past}
+use Rattle.value.specs.Parameter.{wholeOk}
+use Rattle.input.specs.declared.Number.{Number}
+use Rattle.input.specs.declared.Number.the-variants.{Is, Bad}
+use Rattle.input.specs.declared.Integer.{Integer}
+use Rattle.input.specs.declared.Integer.the-variants as integers
+
+-- what stands behind the first k spaces of a line
+abbrev pub behindSpaces : ℕ → List ℕ → List ℕ
+behindSpaces zero t = t
+behindSpaces (suc k) t = behindSpaces k (past (code " ") t)
+
+-- word k of a line, from 0; empty where there is none
+unfoldable pub wordAt : ℕ → List ℕ → List ℕ
+wordAt k t = upTo (code " ") (behindSpaces k t)
+
+-- how many spaces a line has: one fewer than its words
+abbrev pub spaces : List ℕ → ℕ
+spaces [] = 0
+spaces (b ∷ s) = cond (eqb b (code " ")) (suc (spaces s)) (spaces s)
+
+-- a decimal of any size: digits without leading zeros
+unfoldable pub isNatural : List ℕ → Bool
+isNatural t = wholeOk t && all isDigit t
+
+-- a number that was read, or none
+abbrev pub numberOf : Option ℕ → Number
+numberOf none = Bad
+numberOf (some n) = Is n
+
+-- a signed number that is counted from -2^31; `negsuc n` is -(n + 1)
+abbrev pub signedOf : ℕ → ℤ
+signedOf v = cond (ltb v (2 ^ 31)) (negsuc (2 ^ 31 - suc v)) (pos (v - 2 ^ 31))
+
+-- a signed number that was read, or none
+abbrev pub integerOf : Option ℕ → Integer
+integerOf none = integers.Bad
+integerOf (some v) = integers.Is (signedOf v)
