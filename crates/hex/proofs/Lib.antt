@@ -1,0 +1,2 @@
+pub mod HexLaws
+pub mod RestLaws

@@ -1,0 +1,20 @@
+-- Below ten it is a decimal digit, from there a letter.
+use borrow.Author.Needs.{needs}
+use Rattle.hex.proofs.HexLaws.{low-digit, high-digit}
+use Rattle.hex.proofs.hex_digit.Statement.{statement}
+use Rattle.hex.proofs.hex_digit.Tie as tie
+
+add-result : tie.Need-add-result
+add-result c = search needs
+
+add-result-2 : tie.Need-add-result-2
+add-result-2 c = search needs
+
+returns : tie.Need-returns
+returns c = low-digit _ (c .if1 .taken)
+
+returns-2 : tie.Need-returns-2
+returns-2 c = high-digit _ (c .if1 .left)
+
+pub hex-digit-spec : {M : Type 1} → statement M
+hex-digit-spec = tie.close (tie.spec add-result add-result-2 returns returns-2)

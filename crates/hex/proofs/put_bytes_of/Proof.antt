@@ -1,0 +1,76 @@
+-- Writing the bytes of the rest gives what writing those of the whole gave at the start.
+use borrow.Author.Needs.{needs}
+use native.Mathlib.Omega.{arith}
+use Prim.Native.Nat.{_-_, _≤_}
+use lib.ListN.{length, drop}
+use Rattle.output.specs.Output.{output}
+use Rattle.output.proofs.OutputLaws as O
+use Rattle.hex.specs.Hex.{bytesOf}
+use Rattle.hex.proofs.HexLaws as H
+use Rattle.hex.proofs.RestLaws as R
+use Rattle.hex.proofs.put_bytes_of.Statement.{statement}
+use Rattle.hex.proofs.put_bytes_of.Tie as tie
+
+abbrev Inv-loop : tie.InvT-loop
+Inv-loop into₀ at t p₀ i₀ into p i = (i ≤ length t) × R.Rest (output into₀ at) (bytesOf t) (output into p) (bytesOf (drop i t))
+
+abbrev μ-loop : tie.MeasureT-loop
+μ-loop into₀ at t p₀ i₀ into p i = length t - i
+
+loop-holds : tie.Need-loop-holds Inv-loop μ-loop
+loop-holds c = (omega arith, R.none-yet _ _)
+
+add-loop : tie.Need-add-loop Inv-loop μ-loop
+add-loop c = omega arith
+
+shared-slice-read-byte-of : tie.Need-shared-slice-read-byte-of Inv-loop μ-loop
+shared-slice-read-byte-of c = omega arith
+
+add-byte-of : tie.Need-add-byte-of Inv-loop μ-loop
+add-byte-of c = omega arith
+
+shared-slice-read-byte-of-2 : tie.Need-shared-slice-read-byte-of-2 Inv-loop μ-loop
+shared-slice-read-byte-of-2 c = omega arith
+
+byte-of-requires : tie.Need-byte-of-requires Inv-loop μ-loop
+byte-of-requires c κs = search needs
+
+put-byte-requires : tie.Need-put-byte-requires Inv-loop μ-loop
+put-byte-requires c κs = search needs
+
+add-i : tie.Need-add-i Inv-loop μ-loop
+add-i c = omega arith
+
+loop-less : tie.Need-loop-less Inv-loop μ-loop
+loop-less c = omega arith
+
+loop-again : tie.Need-loop-again Inv-loop μ-loop
+loop-again c =
+    let l = c .before .before .before .before .before .before .before .before in
+    let t = l .before .before .before .args .t .now in
+    (omega arith, R.one-more (l .loop .inv .1) _ (c .before .before .put-byte .ensures) (rw (c .before .before .before .byte-of .ensures) (H.bytes-more t (l .loop .i) (omega arith))))
+
+same-length : tie.Need-same-length Inv-loop μ-loop
+same-length c = O.same (R.all-written (c .before .loop .inv .1) (H.bytes-end (c .before .before .before .before .args .t .now) (c .before .loop .i) (omega arith)))
+
+returns : tie.Need-returns Inv-loop μ-loop
+returns c = R.all-written (c .before .loop .inv .1) (H.bytes-end (c .before .before .before .before .args .t .now) (c .before .loop .i) (omega arith))
+
+pub put-bytes-of-spec : {M : Type 1} → statement M
+put-bytes-of-spec =
+    tie.close
+    (tie.spec
+    Inv-loop
+    μ-loop
+    loop-holds
+    add-loop
+    shared-slice-read-byte-of
+    add-byte-of
+    shared-slice-read-byte-of-2
+    byte-of-requires
+    put-byte-requires
+    add-i
+    loop-less
+    loop-again
+    same-length
+    returns)

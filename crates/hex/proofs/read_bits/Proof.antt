@@ -1,0 +1,31 @@
+-- 16 digits, each of hex.
+use borrow.Author.Needs.{needs}
+use mathlib.Core.Path.{sym, ap, _∙_}
+use borrow.Author.Tests.{eq-eqb, ne-eqb, not-true, not-false}
+use lib.ListN.{length}
+use Rattle.hex.specs.declared.Bits.the-variants.{Are}
+use Rattle.hex.specs.Hex.{bitsOf}
+use Rattle.hex.proofs.read_bits.Statement.{statement}
+use Rattle.hex.proofs.read_bits.Tie as tie
+
+returns : tie.Need-returns
+unfolding bitsOf
+returns c = rw (ne-eqb (length (c .before .before .args .t .now)) 16 (c .if1 .taken))
+
+all-hex-requires : tie.Need-all-hex-requires
+all-hex-requires c κs = search needs
+
+returns-2 : tie.Need-returns-2
+unfolding bitsOf
+returns-2 c = rw (eq-eqb (length (c .before .before .before .before .args .t .now)) 16 (c .before .before .if1 .left), sym (c .before .all-hex .ensures) ∙ not-true _ (c .if2 .taken))
+
+number-of-requires : tie.Need-number-of-requires
+number-of-requires c κs = search needs
+
+returns-3 : tie.Need-returns-3
+unfolding bitsOf
+returns-3 c = rw (eq-eqb (length (c .before .before .before .before .before .args .t .now)) 16 (c .before .before .before .if1 .left), sym (c .before .before .all-hex .ensures) ∙ not-false _ (c .before .if2 .left)) (ap Are (c .number-of .ensures))
+
+pub read-bits-spec : {M : Type 1} → statement M
+read-bits-spec =
+    tie.close (tie.spec returns all-hex-requires returns-2 number-of-requires returns-3)
