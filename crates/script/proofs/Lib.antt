@@ -1,0 +1,4 @@
+pub mod BytesLaws
+pub mod ReadingLaws
+pub mod CommandLaws
+pub mod ReplayLaws

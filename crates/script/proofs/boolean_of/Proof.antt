@@ -1,0 +1,33 @@
+-- By the number that was read, which a byte holds.
+use borrow.Author.Needs.{needs}
+use native.Mathlib.Omega.{arith}
+use mathlib.Core.Path.{sym, ap, _∙_}
+use Rattle.value.specs.declared.Reading.the-variants.{Boolean}
+use Rattle.output.specs.Read.{readDecimal}
+use Rattle.input.specs.Words.{numberOf}
+use Rattle.script.specs.Script.{readingOf}
+use Rattle.script.proofs.ReadingLaws.{at-most-within}
+use Rattle.script.proofs.boolean_of.Statement.{statement}
+use Rattle.script.proofs.boolean_of.Tie as tie
+
+byte-number-requires : tie.Need-byte-number-requires
+byte-number-requires c κs = search needs
+
+enum-known-n : tie.Need-enum-known-n
+enum-known-n c = search needs
+
+enum-told : tie.Need-enum-told
+enum-told c = search needs
+
+returns : tie.Need-returns
+returns c = sym (ap (readingOf Boolean) (sym (c .before .before .byte-number .ensures) ∙ c .enum-told .given .1))
+
+cast-t4 : tie.Need-cast-t4
+cast-t4 c = omega (arith, at-most-within 255 (numberOf (readDecimal (c .before .before .before .before .before .args .t .now))) (c .before .n .given .0 .0) (sym (c .before .before .before .byte-number .ensures) ∙ c .before .n .given .1))
+
+returns-2 : tie.Need-returns-2
+returns-2 c = sym (ap (readingOf Boolean) (sym (c .before .before .before .byte-number .ensures) ∙ c .before .n .given .1))
+
+pub boolean-of-spec : {M : Type 1} → statement M
+boolean-of-spec =
+    tie.close (tie.spec byte-number-requires enum-known-n enum-told returns cast-t4 returns-2)

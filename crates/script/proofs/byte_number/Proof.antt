@@ -1,0 +1,18 @@
+-- Both callees' contracts.
+use borrow.Author.Needs.{needs}
+use mathlib.Core.Path.{ap, _∙_}
+use Rattle.script.specs.Script.{atMost}
+use Rattle.script.proofs.byte_number.Statement.{statement}
+use Rattle.script.proofs.byte_number.Tie as tie
+
+read-decimal-requires : tie.Need-read-decimal-requires
+read-decimal-requires c κs = search needs
+
+at-most-requires : tie.Need-at-most-requires
+at-most-requires c κs = search needs
+
+returns : tie.Need-returns
+returns c = c .at-most .ensures ∙ ap (atMost 255) (c .before .read-decimal .ensures)
+
+pub byte-number-spec : {M : Type 1} → statement M
+byte-number-spec = tie.close (tie.spec read-decimal-requires at-most-requires returns)

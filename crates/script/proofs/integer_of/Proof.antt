@@ -1,0 +1,30 @@
+-- By the integer that was read.
+use borrow.Author.Needs.{needs}
+use mathlib.Core.Path.{sym, ap, _∙_}
+use lib.IntN.{ℤ}
+use mir.Syntax.{w32}
+use mir.ValLaws.{toZ-ofZ}
+use Rattle.value.specs.declared.Reading.the-variants.{Integer}
+use Rattle.script.specs.declared.Given.the-variants.{A}
+use Rattle.script.specs.Script.{integerGiven}
+use Rattle.script.proofs.integer_of.Statement.{statement}
+use Rattle.script.proofs.integer_of.Tie as tie
+
+read-integer-requires : tie.Need-read-integer-requires
+read-integer-requires c κs = search needs
+
+enum-known-x : tie.Need-enum-known-x
+enum-known-x c = search needs
+
+enum-told : tie.Need-enum-told
+enum-told c = search needs
+
+returns : tie.Need-returns
+returns c = sym (ap integerGiven (sym (c .before .before .read-integer .ensures) ∙ c .enum-told .given .1))
+
+returns-2 : tie.Need-returns-2
+returns-2 c = ap (λ (z : ℤ). A (Integer z)) (toZ-ofZ w32 (c .before .x .given .0 .0) (search needs)) ∙ sym (ap integerGiven (sym (c .before .before .before .read-integer .ensures) ∙ c .before .x .given .1))
+
+pub integer-of-spec : {M : Type 1} → statement M
+integer-of-spec =
+    tie.close (tie.spec read-integer-requires enum-known-x enum-told returns returns-2)

@@ -1,0 +1,23 @@
+-- The word's number.
+use borrow.Author.Needs.{needs}
+use Prim.Native.Nat.{ℕ}
+use mathlib.Core.Path.{ap, _∙_}
+use mathlib.Core.List.{List}
+use Rattle.output.specs.Read.{readDecimal}
+use Rattle.input.specs.Words.{numberOf}
+use Rattle.script.specs.Script.{numberAt}
+use Rattle.script.proofs.number_at.Statement.{statement}
+use Rattle.script.proofs.number_at.Tie as tie
+
+word-requires : tie.Need-word-requires
+word-requires c κs = search needs
+
+read-decimal-requires : tie.Need-read-decimal-requires
+read-decimal-requires c κs = search needs
+
+returns : tie.Need-returns
+unfolding numberAt
+returns c = c .read-decimal .ensures ∙ ap (λ (w : List ℕ). numberOf (readDecimal w)) (c .before .word .ensures)
+
+pub number-at-spec : {M : Type 1} → statement M
+number-at-spec = tie.close (tie.spec word-requires read-decimal-requires returns)

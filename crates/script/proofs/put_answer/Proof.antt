@@ -1,0 +1,40 @@
+-- A sequence of writers.
+use borrow.Author.Needs.{needs}
+use Rattle.output.proofs.OutputLaws.{then}
+use Rattle.script.specs.Replay.{answerLine}
+use Rattle.script.proofs.put_answer.Statement.{statement}
+use Rattle.script.proofs.put_answer.Tie as tie
+
+put-decimal-requires : tie.Need-put-decimal-requires
+put-decimal-requires c κs = search needs
+
+put-byte-requires : tie.Need-put-byte-requires
+put-byte-requires c κs = search needs
+
+put-text-requires : tie.Need-put-text-requires
+put-text-requires c κs = search needs
+
+put-byte-requires-2 : tie.Need-put-byte-requires-2
+put-byte-requires-2 c κs = search needs
+
+same-length : tie.Need-same-length
+same-length c = search needs
+
+returns : tie.Need-returns
+unfolding answerLine
+returns c =
+    let c3 = c .before .before .before .before .before .before in
+    let c2 = c3 .before .before .before .before in
+    let c1 = c2 .before .before .before .before in
+    then (c1 .put-decimal .ensures) (then (c2 .put-byte .ensures) (then (c3 .put-text .ensures) (c .before .before .put-byte2 .ensures)))
+
+pub put-answer-spec : {M : Type 1} → statement M
+put-answer-spec =
+    tie.close
+    (tie.spec
+    put-decimal-requires
+    put-byte-requires
+    put-text-requires
+    put-byte-requires-2
+    same-length
+    returns)
