@@ -1,0 +1,2 @@
+pub mod EntryLaws
+pub mod ShownLaws

@@ -1,0 +1,105 @@
+-- What is still to be written is what the deliveries from `i` on show; each turn writes the line of one.
+use borrow.Author.Needs.{needs}
+use native.Mathlib.Omega.{arith}
+use Prim.Native.Nat.{_≤_, _-_}
+use mathlib.Core.Path.{_≡_, _∙_}
+use lib.ListN.{length, drop, length-drop}
+use Rattle.output.proofs.OutputLaws.{same}
+use Rattle.output.specs.Output.{output, putAll}
+use Rattle.terminal.specs.Shown.{shownTo}
+use Rattle.terminal.proofs.ShownLaws.{shown-none, shown-more, carried}
+use Rattle.terminal.proofs.put_shown.Statement.{statement}
+use Rattle.terminal.proofs.put_shown.Tie as tie
+
+abbrev Inv-loop : tie.InvT-loop
+Inv-loop into₀ at client bytes p₀ i₀ into p i =
+    (i ≤ length bytes)
+    × ((length into ≡ length into₀)
+    × (putAll (output into p) (shownTo client (drop i bytes)) ≡ putAll (output into₀ at) (shownTo client bytes)))
+
+abbrev μ-loop : tie.MeasureT-loop
+μ-loop into₀ at client bytes p₀ i₀ into p i = length bytes - i
+
+loop-holds : tie.Need-loop-holds Inv-loop μ-loop
+loop-holds c = search needs
+
+add-loop : tie.Need-add-loop Inv-loop μ-loop
+add-loop c = search needs
+
+add-from : tie.Need-add-from Inv-loop μ-loop
+add-from c = search needs
+
+add-line-end : tie.Need-add-line-end Inv-loop μ-loop
+add-line-end c = search needs
+
+shared-slice-read-line-end : tie.Need-shared-slice-read-line-end Inv-loop μ-loop
+shared-slice-read-line-end c = search needs
+
+add-line-end-2 : tie.Need-add-line-end-2 Inv-loop μ-loop
+add-line-end-2 c = search needs
+
+shared-slice-read-line-end-2 : tie.Need-shared-slice-read-line-end-2 Inv-loop μ-loop
+shared-slice-read-line-end-2 c = search needs
+
+line-end-requires : tie.Need-line-end-requires Inv-loop μ-loop
+line-end-requires c κs = search needs
+
+shared-slice-read-put-if : tie.Need-shared-slice-read-put-if Inv-loop μ-loop
+shared-slice-read-put-if c = search needs
+
+sub-put-if : tie.Need-sub-put-if Inv-loop μ-loop
+sub-put-if c = search needs
+
+part-put-if-start : tie.Need-part-put-if-start Inv-loop μ-loop
+part-put-if-start c = search needs
+
+part-put-if-end : tie.Need-part-put-if-end Inv-loop μ-loop
+part-put-if-end c = search needs
+
+put-if-requires : tie.Need-put-if-requires Inv-loop μ-loop
+put-if-requires c κs = search needs
+
+loop-less : tie.Need-loop-less Inv-loop μ-loop
+loop-less c = search needs
+
+loop-again : tie.Need-loop-again Inv-loop μ-loop
+loop-again c =
+    let s = c .before .before .before .before .before .before .before .before .before .before .before .before .before .args .bytes .now in
+    let client = c .before .before .before .before .before .before .before .before .before .before .before .before .before .args .client in
+    let turn = c .before .before .before .before .before .before .before .before .before .before .loop in
+    let to = c .before .before .before .before .before .before .line-end .result in
+    let wrote = c .before .before .put-if .ensures in
+    (omega arith, (same wrote ∙ turn .inv .1 .0, carried (shownTo client (drop to s)) wrote (rw (← shown-more client s (turn .i) to (omega arith) (c .before .before .before .before .before .before .line-end .ensures)) (turn .inv .1 .1))))
+
+same-length : tie.Need-same-length Inv-loop μ-loop
+same-length c = search needs
+
+returns : tie.Need-returns Inv-loop μ-loop
+returns c =
+    let s = c .before .before .before .before .args .bytes .now in
+    let turn = c .before .loop in
+    record { is = rw (shown-none (c .before .before .before .before .args .client) (drop (turn .i) s) (omega (arith, length-drop (turn .i) s))) at (turn .inv .1 .1) }
+
+pub put-shown-spec : {M : Type 1} → statement M
+put-shown-spec =
+    tie.close
+    (tie.spec
+    Inv-loop
+    μ-loop
+    loop-holds
+    add-loop
+    add-from
+    add-line-end
+    shared-slice-read-line-end
+    add-line-end-2
+    shared-slice-read-line-end-2
+    line-end-requires
+    shared-slice-read-put-if
+    sub-put-if
+    part-put-if-start
+    part-put-if-end
+    put-if-requires
+    loop-less
+    loop-again
+    same-length
+    returns)

@@ -1,0 +1,26 @@
+-- By the number of word 1.
+use borrow.Author.Needs.{needs}
+use Rattle.terminal.proofs.tick_entry.Statement.{statement}
+use Rattle.terminal.proofs.tick_entry.Tie as tie
+
+word-requires : tie.Need-word-requires
+word-requires c κs = search needs
+
+natural-requires : tie.Need-natural-requires
+natural-requires c κs = search needs
+
+enum-known-ms : tie.Need-enum-known-ms
+enum-known-ms c = search needs
+
+enum-told : tie.Need-enum-told
+enum-told c = search needs
+
+returns : tie.Need-returns
+returns c = rw (← c .before .before .before .word .ensures, ← c .before .before .natural .ensures, c .enum-told .given .1)
+
+returns-2 : tie.Need-returns-2
+returns-2 c = rw (← c .before .before .before .before .word .ensures, ← c .before .before .before .natural .ensures, c .before .ms .given .1)
+
+pub tick-entry-spec : {M : Type 1} → statement M
+tick-entry-spec =
+    tie.close (tie.spec word-requires natural-requires enum-known-ms enum-told returns returns-2)
