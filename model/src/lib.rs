@@ -1,0 +1,28 @@
+//! A model of the KATCP server of the lift group unit.
+//!
+//! It is written from document 01 and the KATCP guideline alone, as a second
+//! opinion on what they say. Above each function of the server stand the words
+//! of document 01 that it renders. The rest answers scripts of calls, makes
+//! them, and compares another program's answers with the model's.
+
+pub mod compare;
+pub mod console;
+pub mod device;
+pub mod encode;
+pub mod generate;
+pub mod message;
+pub mod number;
+pub mod plan;
+pub mod random;
+pub mod readable;
+pub mod requests;
+pub mod sampling;
+pub mod script;
+pub mod sheet;
+pub mod strategy;
+pub mod tally;
+pub mod value;
+pub mod vectors;
+
+pub use device::Device;
+pub use value::Reading;

@@ -1,0 +1,175 @@
+//! What came up in a run: numbers, calls, requests, visits, statuses.
+
+use crate::device::Device;
+use crate::message::{Message, Sort};
+use crate::requests::REQUESTS;
+use crate::script::{Call, Session};
+use crate::sheet::Kind;
+use crate::strategy::{Occasion, Strategy, NAMES};
+use crate::value::{Status, STATUSES};
+use std::collections::BTreeMap;
+use std::fmt::Write;
+
+/// How often each strategy's visits reported or stayed silent, and which
+/// statuses were reported.
+#[derive(Clone, Copy, Default, PartialEq, Eq, Debug)]
+pub struct Visits {
+    /// By strategy: at a reading silent, reported; at a tick silent, reported.
+    pub by_strategy: [[u64; 4]; 7],
+    pub statuses: [u64; 7],
+}
+
+impl Visits {
+    /// One visit: "at a reading or tick".
+    pub fn count(&mut self, strategy: Strategy, occasion: Occasion, reported: bool) {
+        let column = match occasion {
+            Occasion::Reading => usize::from(reported),
+            Occasion::Tick => 2 + usize::from(reported),
+        };
+        self.by_strategy[strategy.place()][column] += 1;
+    }
+
+    /// One report: "status".
+    pub fn count_status(&mut self, status: Status) {
+        self.statuses[status as usize] += 1;
+    }
+}
+
+/// Everything counted over many scripts.
+#[derive(Default)]
+pub struct Tally {
+    pub scripts: u64,
+    pub numbers: [u64; 24],
+    pub errors: u64,
+    pub calls: BTreeMap<&'static str, u64>,
+    pub requests: BTreeMap<(String, u8), u64>,
+    pub settings: [[u64; 5]; 7],
+    pub visits: Visits,
+}
+
+impl Tally {
+    /// Counts one call with its number; the session has already performed it.
+    pub fn count(&mut self, call: &Call, number: u8, before: Option<&Message>) {
+        self.numbers[usize::from(number)] += 1;
+        *self.calls.entry(call.verb()).or_default() += 1;
+        if let Some(message) = before {
+            let name = String::from_utf8_lossy(&message.name).into_owned();
+            let shown = if REQUESTS.contains(&&name[..]) { name } else { "(any other)".to_string() };
+            *self.requests.entry((shown, number)).or_default() += 1;
+        }
+    }
+
+    /// Counts the pairs set by a `sensor-sampling` that was answered `ok`.
+    pub fn count_settings(&mut self, device: &Device, message: &Message) {
+        if message.name != b"sensor-sampling" || message.arguments.len() < 2 {
+            return;
+        }
+        let strategy = NAMES.iter().position(|name| name.as_bytes() == message.arguments[1]);
+        for name in message.arguments[0].split(|&byte| byte == b',') {
+            if let (Some(strategy), Some(place)) = (strategy, device.sheet.place(name)) {
+                self.settings[strategy][device.sheet.sensors[place].kind as usize] += 1;
+            }
+        }
+    }
+
+    /// Adds the visits of a session that has ended.
+    pub fn add_visits(&mut self, session: &Session) {
+        let from = &session.device.visits;
+        for (to, from) in self.visits.by_strategy.iter_mut().flatten().zip(from.by_strategy.iter().flatten())
+        {
+            *to += from;
+        }
+        for (to, from) in self.visits.statuses.iter_mut().zip(from.statuses) {
+            *to += from;
+        }
+    }
+
+    /// The tables, as Markdown.
+    pub fn text(&self) -> String {
+        let calls: u64 = self.calls.values().sum();
+        let mut text =
+            format!("{} scripts, {} calls, {} lines that are no call.\n", self.scripts, calls, self.errors);
+        self.write_numbers(&mut text);
+        self.write_calls(&mut text);
+        self.write_visits(&mut text);
+        self.write_settings(&mut text);
+        self.write_statuses(&mut text);
+        self.write_requests(&mut text);
+        text
+    }
+
+    /// "Every row returns its number".
+    fn write_numbers(&self, text: &mut String) {
+        table(text, &["number", "times"]);
+        for (number, times) in self.numbers.iter().enumerate().filter(|(number, _)| *number != 1) {
+            row(text, &[number.to_string(), times.to_string()]);
+        }
+        row(text, &["error".to_string(), self.errors.to_string()]);
+    }
+
+    /// Calls of each kind.
+    fn write_calls(&self, text: &mut String) {
+        table(text, &["call", "times"]);
+        for (verb, times) in &self.calls {
+            row(text, &[verb.to_string(), times.to_string()]);
+        }
+    }
+
+    /// Visits by strategy.
+    fn write_visits(&self, text: &mut String) {
+        table(text, &["strategy", "reading: silent", "reading: report", "tick: silent", "tick: report"]);
+        for (name, counts) in NAMES.iter().zip(self.visits.by_strategy) {
+            let mut cells = vec![name.to_string()];
+            cells.extend(counts.iter().map(u64::to_string));
+            row(text, &cells);
+        }
+    }
+
+    /// Pairs set by strategy and type.
+    fn write_settings(&self, text: &mut String) {
+        let kinds = [Kind::Integer, Kind::Float, Kind::Boolean, Kind::Discrete, Kind::Timestamp];
+        let mut heads = vec!["pairs set"];
+        heads.extend(kinds.iter().map(|kind| kind.text()));
+        table(text, &heads);
+        for (name, counts) in NAMES.iter().zip(self.settings) {
+            let mut cells = vec![name.to_string()];
+            cells.extend(counts.iter().map(u64::to_string));
+            row(text, &cells);
+        }
+    }
+
+    /// Statuses reported by `#sensor-status`.
+    fn write_statuses(&self, text: &mut String) {
+        table(text, &["status reported", "times"]);
+        for (status, times) in STATUSES.iter().zip(self.visits.statuses) {
+            row(text, &[status.text().to_string(), times.to_string()]);
+        }
+    }
+
+    /// Requests by name and outcome.
+    fn write_requests(&self, text: &mut String) {
+        table(text, &["request", "number", "times"]);
+        for ((name, number), times) in &self.requests {
+            row(text, &[name.clone(), number.to_string(), times.to_string()]);
+        }
+    }
+}
+
+/// The message of a line that is a request.
+pub fn request_of(call: &Call) -> Option<Message> {
+    match call {
+        Call::Line { line, .. } => Message::read(line).filter(|message| message.sort == Sort::Request),
+        _ => None,
+    }
+}
+
+/// The head of a Markdown table.
+fn table(text: &mut String, heads: &[&str]) {
+    let rule: Vec<&str> = heads.iter().map(|_| "---").collect();
+    write!(text, "\n| {} |\n|{}|\n", heads.join(" | "), rule.join("|")).expect("text");
+}
+
+/// A row of a Markdown table.
+fn row(text: &mut String, cells: &[String]) {
+    writeln!(text, "| {} |", cells.join(" | ")).expect("text");
+}
