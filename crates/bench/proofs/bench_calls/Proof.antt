@@ -1,0 +1,31 @@
+-- The round's calls, on the device that was prepared.
+use borrow.Author.Needs.{needs}
+use mathlib.Core.Path.{ap}
+use Rattle.bench.specs.declared.Repeated.{Repeated}
+use Rattle.bench.specs.Runs.{measured}
+use Rattle.bench.proofs.bench_calls.Statement.{statement}
+use Rattle.bench.proofs.bench_calls.Tie as tie
+
+prepare-requires : tie.Need-prepare-requires
+prepare-requires c κs = search needs
+
+round-of-requires : tie.Need-round-of-requires
+round-of-requires c κs = search needs
+
+repeat-requires : tie.Need-repeat-requires
+repeat-requires c κs = search needs
+
+same-length : tie.Need-same-length
+same-length c = search needs
+
+returns : tie.Need-returns
+unfolding measured
+returns c =
+    let p = c .before .before .before .before .before .before .before .prepare .ensures in
+    let o = c .before .before .before .before .round-of .ensures in
+    let r = c .before .before .repeat .ensures in
+    (ap (λ (x : Repeated). x .taken) (rw (o, p .0, p .1) at (r .0)), rw (o, p .0, p .1) at (r .1))
+
+pub bench-calls-spec : {M : Type 1} → statement M
+bench-calls-spec =
+    tie.close (tie.spec prepare-requires round-of-requires repeat-requires same-length returns)

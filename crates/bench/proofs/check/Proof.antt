@@ -1,0 +1,57 @@
+-- After k turns the count is k where the state is in range, else 0.
+use Prim.Native.Nat.{_≤_, _-_}
+use mathlib.Core.Path.{_≡_}
+use mathlib.Core.Bool.{cond}
+use borrow.Author.Needs.{needs}
+use native.Mathlib.Omega.{arith}
+use Rattle.machine.specs.Range.{inRange}
+use Rattle.bench.proofs.RunLaws.{at-most, none-yet, one-more}
+use Rattle.bench.proofs.check.Statement.{statement}
+use Rattle.bench.proofs.check.Tie as tie
+
+abbrev Inv-loop : tie.InvT-loop
+Inv-loop state n passed₀ k₀ passed k = (k ≤ n) × (passed ≡ cond (inRange state) k 0)
+
+abbrev μ-loop : tie.MeasureT-loop
+μ-loop state n passed₀ k₀ passed k = n - k
+
+loop-holds : tie.Need-loop-holds Inv-loop μ-loop
+loop-holds c = (omega arith, none-yet (inRange (c .args .state)))
+
+in-range-requires : tie.Need-in-range-requires Inv-loop μ-loop
+in-range-requires c κs = search needs
+
+counted-requires : tie.Need-counted-requires Inv-loop μ-loop
+counted-requires c κs =
+    let l = c .before .before in
+    omega (arith, at-most (inRange (l .before .args .state)) (l .loop .k) (l .loop .inv .1))
+
+add-k : tie.Need-add-k Inv-loop μ-loop
+add-k c = omega arith
+
+loop-less : tie.Need-loop-less Inv-loop μ-loop
+loop-less c = omega arith
+
+loop-again : tie.Need-loop-again Inv-loop μ-loop
+loop-again c =
+    let l = c .before .before .before in
+    (omega arith, one-more (inRange (l .before .args .state)) (l .loop .k) (c .before .in-range .ensures) (l .loop .inv .1) (c .counted .ensures))
+
+returns : tie.Need-returns Inv-loop μ-loop
+returns c =
+    let e : c .before .loop .k ≡ c .before .before .args .n = omega arith in
+    rw (← e) (c .before .loop .inv .1)
+
+pub check-spec : {M : Type 1} → statement M
+check-spec =
+    tie.close
+    (tie.spec
+    Inv-loop
+    μ-loop
+    loop-holds
+    in-range-requires
+    counted-requires
+    add-k
+    loop-less
+    loop-again
+    returns)

@@ -1,0 +1,29 @@
+-- The device of the sheet, and then the calls that connect.
+use borrow.Author.Needs.{needs}
+use mathlib.Core.Path.{ap}
+use Rattle.bench.specs.declared.Repeated.{Repeated}
+use Rattle.bench.specs.Runs.{prepared}
+use Rattle.bench.proofs.prepare.Statement.{statement}
+use Rattle.bench.proofs.prepare.Tie as tie
+
+open-requires : tie.Need-open-requires
+open-requires c κs = search needs
+
+mul-repeat : tie.Need-mul-repeat
+mul-repeat c = search needs
+
+repeat-requires : tie.Need-repeat-requires
+repeat-requires c κs = search needs
+
+same-length : tie.Need-same-length
+same-length c = search needs
+
+returns : tie.Need-returns
+unfolding prepared
+returns c =
+    let o = c .before .before .before .before .before .open .ensures in
+    let r = c .before .before .before .repeat .ensures in
+    (ap (λ (x : Repeated). x .state) (rw o at (r .0)), rw o at (r .1))
+
+pub prepare-spec : {M : Type 1} → statement M
+prepare-spec = tie.close (tie.spec open-requires mul-repeat repeat-requires same-length returns)

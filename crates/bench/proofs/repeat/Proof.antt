@@ -1,0 +1,60 @@
+-- After k turns the device, the count and the output are those of k calls.
+use Prim.Native.Nat.{_≤_, _-_}
+use mathlib.Core.Path.{_≡_}
+use lib.Dec.{eqb}
+use lib.ListN.{length}
+use borrow.Author.Needs.{needs}
+use native.Mathlib.Omega.{arith}
+use Rattle.bench.specs.Runs.{begun, roundAction}
+use Rattle.bench.proofs.RunLaws.{Reached, starts, goes-on, few, ends}
+use Rattle.bench.proofs.repeat.Statement.{statement}
+use Rattle.bench.proofs.repeat.Tie as tie
+
+abbrev Inv-loop : tie.InvT-loop
+Inv-loop round line n out₀ state₀ taken₀ k₀ out state taken k =
+    (k ≤ n) × (taken ≤ k) × (length out ≡ length out₀) × Reached (roundAction round line) (begun state₀ out₀) k state taken out
+
+abbrev μ-loop : tie.MeasureT-loop
+μ-loop round line n out₀ state₀ taken₀ k₀ out state taken k = n - k
+
+loop-holds : tie.Need-loop-holds Inv-loop μ-loop
+loop-holds c = (omega arith, omega arith, search needs, starts _ _ _)
+
+turn-requires : tie.Need-turn-requires Inv-loop μ-loop
+turn-requires c κs = search needs
+
+counted-requires : tie.Need-counted-requires Inv-loop μ-loop
+counted-requires c κs = omega arith
+
+add-k : tie.Need-add-k Inv-loop μ-loop
+add-k c = omega arith
+
+loop-less : tie.Need-loop-less Inv-loop μ-loop
+loop-less c = omega arith
+
+loop-again : tie.Need-loop-again Inv-loop μ-loop
+loop-again c =
+    let h = c .before .before .before .before .before .before .before .before .loop .inv in
+    let t = c .before .before .before .before .before .turn .ensures in
+    (omega arith, few (eqb (c .before .before .before .before .before .turn .result .number) 0) (c .before .counted .ensures) (h .1), search needs, goes-on _ (h .3) (t .0) (t .1) (c .before .counted .ensures))
+
+same-length : tie.Need-same-length Inv-loop μ-loop
+same-length c = search needs
+
+returns : tie.Need-returns Inv-loop μ-loop
+returns c = ends (omega arith) (c .before .loop .inv .3)
+
+pub repeat-spec : {M : Type 1} → statement M
+repeat-spec =
+    tie.close
+    (tie.spec
+    Inv-loop
+    μ-loop
+    loop-holds
+    turn-requires
+    counted-requires
+    add-k
+    loop-less
+    loop-again
+    same-length
+    returns)
