@@ -74,7 +74,7 @@ fn cases() -> Vec<Case> {
     let (event, auto, period) = (sampling("event"), sampling("auto"), sampling("period 0.001"));
     let bulk = sampling("differential 10");
     vec![
-        case("connect with 7 others, or disconnect", Round::Connect, 7, "?watchdog", "", 20_000),
+        case("connect, disconnect (mean of the two)", Round::Connect, 7, "?watchdog", "", 20_000),
         case("tick, nothing due", Round::Tick, 8, &event, "", 20_000),
         case("tick, all 256 due", Round::Tick, 8, &period, "", 4_000),
         case("reading, silent", Round::Reading, 8, &event, "", 20_000),
