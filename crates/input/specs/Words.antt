@@ -6,7 +6,7 @@ use mathlib.Core.List.{List, [], _∷_}
 use mathlib.Core.Option.{Option, none, some}
 use lib.Dec.{eqb, ltb}
 use lib.IntN.{ℤ, pos, negsuc}
-use Rattle.output.specs.Text.{isDigit, all}
+use Rattle.output.specs.Text.{isDigit, all, same}
 use Rattle.output.specs.Read.{upTo, past}
 use Rattle.value.specs.Parameter.{wholeOk}
 use Rattle.input.specs.declared.Number.{Number}
@@ -27,6 +27,10 @@ wordAt k t = upTo (code " ") (behindSpaces k t)
 abbrev pub spaces : List ℕ → ℕ
 spaces [] = 0
 spaces (b ∷ s) = cond (eqb b (code " ")) (suc (spaces s)) (spaces s)
+
+-- a line whose first word is this, with so many more words
+unfoldable pub hasWords : List ℕ → ℕ → List ℕ → Bool
+hasWords word more t = same (wordAt 0 t) word && eqb (spaces t) more
 
 -- a decimal of any size: digits without leading zeros
 unfoldable pub isNatural : List ℕ → Bool

@@ -4,7 +4,7 @@ ghost use Prim.Native.Nat.{_-_, _*_, _+_, _^_, _≤_, min};
 ghost use lib.ListN.{length, drop, take};
 ghost use Rattle.output.specs.Output.{laid};
 ghost use Rattle.output.specs.Read.{upTo, past, valueFrom, fromBias, readDecimal, readInteger};
-ghost use Rattle.input.specs.Words.{wordAt, spaces, isNatural, numberOf, integerOf};
+ghost use Rattle.input.specs.Words.{wordAt, spaces, hasWords, isNatural, numberOf, integerOf};
 ghost use Rattle.input.specs.Window.{pending, kept, first};
 
 // The bytes of a buffer that were read and are not used yet: those from `from` up to `to`.
@@ -94,7 +94,7 @@ pub fn word(line: &[u8], k: usize) -> &[u8]
 }
 
 // How many spaces a line has.
-pub fn count_spaces(line: &[u8]) -> usize
+fn count_spaces(line: &[u8]) -> usize
     ensures { λ r. ⌜ r ≡ spaces (now (line .entry)) ⌝ }
 {
     let mut n = 0;
@@ -106,6 +106,13 @@ pub fn count_spaces(line: &[u8]) -> usize
         i += 1;
     }
     n
+}
+
+// Whether the first word of a line is `first`, with so many more words.
+pub fn has_words(line: &[u8], first: &[u8], more: usize) -> bool
+    ensures { λ r. ⌜ r ≡ hasWords (now (first .entry)) more (now (line .entry)) ⌝ }
+{
+    line::same(word(line, 0), first) & (count_spaces(line) == more)
 }
 
 // Whether a text is a decimal, of any size.

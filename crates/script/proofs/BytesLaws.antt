@@ -5,7 +5,7 @@ use native.Mathlib.Omega.{arith}
 use mathlib.Core.Path.{_≡_, sym, ap, _∙_}
 use mathlib.Core.List.{List, [], _∷_}
 use lib.ListN.{length, take, replicate, length-drop, length-replicate}
-use lib.Seq.{take-at, length-take-le}
+use lib.Seq.{length-take-le}
 use Rattle.output.specs.Output.{output, Wrote}
 use Rattle.output.specs.Text.{run, behindRun}
 use Rattle.output.specs.Read.{other, past}
@@ -13,6 +13,7 @@ use Rattle.output.proofs.OutputLaws as O
 use Rattle.output.proofs.RunLaws.{run-le, run-drop}
 use Rattle.hex.specs.Hex.{bytesOf}
 use Rattle.input.specs.Words.{behindSpaces, wordAt}
+use Rattle.input.proofs.NumberLaws.{written}
 use Rattle.script.specs.Replay.{bytesAt}
 
 -- a word stands for half as many bytes as it has
@@ -56,5 +57,5 @@ held {line} {text} {w} {n} k e o short =
     record {
       inside = i;
       count = sym (length-take-le n text i);
-      bytes = rw (f .1) (take-at (bytesOf w) _ n (sym (f .0))) ∙ ap bytesOf e;
+      bytes = written o (omega (arith, room)) ∙ ap bytesOf e;
     }

@@ -21,7 +21,7 @@ use Rattle.input.specs.declared.Number.{Number}
 use Rattle.input.specs.declared.Number.the-variants.{Is, Bad}
 use Rattle.input.specs.declared.Integer.{Integer as Signed}
 use Rattle.input.specs.declared.Integer.the-variants as integers
-use Rattle.input.specs.Words.{wordAt, spaces, numberOf, integerOf}
+use Rattle.input.specs.Words.{wordAt, hasWords, numberOf, integerOf}
 use Rattle.hex.specs.declared.Bits.{Bits}
 use Rattle.hex.specs.declared.Bits.the-variants as bits
 use Rattle.hex.specs.Hex.{isBytes, bitsOf}
@@ -82,10 +82,6 @@ given kind t =
 
 -- Calls.
 
--- a line whose first word is this, with so many more words
-unfoldable pub isCall : List ℕ → ℕ → List ℕ → Bool
-isCall verb more line = same (wordAt 0 line) verb && eqb (spaces line) more
-
 -- word k stands for bytes
 abbrev pub hasBytes : ℕ → List ℕ → Bool
 hasBytes k line = isBytes (wordAt k line)
@@ -98,12 +94,12 @@ reading j (A r) = commands.Reading j r
 -- a line whose number behind LENT is n
 unfoldable pub called : List ℕ → ℕ → Command
 called line n =
-    cond (isCall (text "connect") 3 line && hasBytes 3 line) (commands.Connect n)
-    (cond (isCall (text "disconnect") 2 line) (commands.Disconnect n)
-    (cond (isCall (text "tick") 2 line) (commands.Tick n)
-    (cond (isCall (text "reading") 4 line) (reading n (given (wordAt 3 line) (wordAt 4 line)))
-    (cond (isCall (text "log") 4 line && (leb n 255 && (hasBytes 3 line && hasBytes 4 line))) (commands.Log n)
-    (cond (isCall (text "line") 3 line && hasBytes 3 line) (commands.Line n)
+    cond (hasWords (text "connect") 3 line && hasBytes 3 line) (commands.Connect n)
+    (cond (hasWords (text "disconnect") 2 line) (commands.Disconnect n)
+    (cond (hasWords (text "tick") 2 line) (commands.Tick n)
+    (cond (hasWords (text "reading") 4 line) (reading n (given (wordAt 3 line) (wordAt 4 line)))
+    (cond (hasWords (text "log") 4 line && (leb n 255 && (hasBytes 3 line && hasBytes 4 line))) (commands.Log n)
+    (cond (hasWords (text "line") 3 line && hasBytes 3 line) (commands.Line n)
     commands.Wrong)))))
 
 -- by LENT and the number behind it
@@ -122,7 +118,7 @@ unfoldable pub commandOf : List ℕ → Command
 commandOf line =
     cond (ltb 65536 (length line)) commands.Wrong
     (cond (passed line) commands.Passed
-    (cond (isCall (text "open") 1 line && hasBytes 1 line) commands.Open
+    (cond (hasWords (text "open") 1 line && hasBytes 1 line) commands.Open
     (byNumbers line (numberAt 1 line) (numberAt 2 line))))
 
 -- "LENT is the length of the lent output", of a call

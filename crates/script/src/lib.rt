@@ -181,13 +181,6 @@ fn reading_of(kind: &[u8], t: &[u8]) -> Given
 
 // Calls.
 
-// Whether the first word of a line is `verb`, with so many more words.
-fn is_call(line: &[u8], verb: &[u8], more: usize) -> bool
-    ensures { λ r. ⌜ r ≡ scripts.isCall (now (verb .entry)) more (now (line .entry)) ⌝ }
-{
-    line::same(input::word(line, 0), verb) & (input::count_spaces(line) == more)
-}
-
 // Whether word `k` stands for bytes.
 fn has_bytes(line: &[u8], k: usize) -> bool
     ensures { λ r. ⌜ r ≡ scripts.hasBytes k (now (line .entry)) ⌝ }
@@ -209,22 +202,24 @@ fn reading_command(line: &[u8], sensor: usize) -> Command
 fn called(line: &[u8], n: u64) -> Command
     ensures { λ r. ⌜ r ≡ scripts.called (now (line .entry)) n ⌝ }
 {
-    if is_call(line, b"connect", 3) & has_bytes(line, 3) {
+    if input::has_words(line, b"connect", 3) & has_bytes(line, 3) {
         return Command::Connect(n as usize);
     }
-    if is_call(line, b"disconnect", 2) {
+    if input::has_words(line, b"disconnect", 2) {
         return Command::Disconnect(n as usize);
     }
-    if is_call(line, b"tick", 2) {
+    if input::has_words(line, b"tick", 2) {
         return Command::Tick(n);
     }
-    if is_call(line, b"reading", 4) {
+    if input::has_words(line, b"reading", 4) {
         return reading_command(line, n as usize);
     }
-    if is_call(line, b"log", 4) & ((n <= 255) & (has_bytes(line, 3) & has_bytes(line, 4))) {
+    if input::has_words(line, b"log", 4)
+        & ((n <= 255) & (has_bytes(line, 3) & has_bytes(line, 4)))
+    {
         return Command::Log(n as u8);
     }
-    if is_call(line, b"line", 3) & has_bytes(line, 3) {
+    if input::has_words(line, b"line", 3) & has_bytes(line, 3) {
         return Command::Line(n as usize);
     }
     Command::Wrong
@@ -248,7 +243,7 @@ fn command_of(line: &[u8]) -> Command
     if is_passed(line) {
         return Command::Passed;
     }
-    if is_call(line, b"open", 1) & has_bytes(line, 1) {
+    if input::has_words(line, b"open", 1) & has_bytes(line, 1) {
         return Command::Open;
     }
     let Number::Is(_) = number_at(line, 1) else {

@@ -17,7 +17,7 @@ use Rattle.input.specs.declared.Number.{Number}
 use Rattle.input.specs.declared.Number.the-variants.{Is, Bad}
 use Rattle.input.specs.declared.Integer.{Integer as Signed}
 use Rattle.input.specs.declared.Integer.the-variants as integers
-use Rattle.input.specs.Words.{wordAt, spaces, isNatural, integerOf}
+use Rattle.input.specs.Words.{wordAt, hasWords, isNatural, integerOf}
 use Rattle.terminal.specs.declared.Entry.{Entry}
 use Rattle.terminal.specs.declared.Entry.the-variants.{Tick, Reading, Line}
 
@@ -48,7 +48,7 @@ giving (Is s) v = cond (isWhole v) (Reading s (fitting (integerOf (readInteger v
 
 -- a line whose first word is this, with so many more words, and that is no longer than a line of the server
 unfoldable pub isKind : List ℕ → ℕ → List ℕ → Bool
-isKind word more line = not (ltb 2048 (length line)) && (same (wordAt 0 line) word && eqb (spaces line) more)
+isKind word more line = not (ltb 2048 (length line)) && hasWords word more line
 
 -- what an input line is
 unfoldable pub entryOf : List ℕ → Entry

@@ -66,8 +66,7 @@ fn integer_reading(t: &[u8]) -> Reading
 fn is_kind(line: &[u8], word: &[u8], more: usize) -> bool
     ensures { λ r. ⌜ r ≡ entries.isKind (now (word .entry)) more (now (line .entry)) ⌝ }
 {
-    let named = line::same(input::word(line, 0), word);
-    !(2048 < line.len()) & (named & (input::count_spaces(line) == more))
+    !(2048 < line.len()) & input::has_words(line, word, more)
 }
 
 // `@ n`.

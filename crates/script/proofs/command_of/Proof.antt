@@ -17,11 +17,11 @@ returns c = rw (
   sym (c .before .is-passed .ensures) ∙ c .if1 .taken,
 )
 
-slice-aggregate-is-call : tie.Need-slice-aggregate-is-call
-slice-aggregate-is-call c = search needs
+slice-aggregate-has-words : tie.Need-slice-aggregate-has-words
+slice-aggregate-has-words c = search needs
 
-is-call-requires : tie.Need-is-call-requires
-is-call-requires c κs = search needs
+has-words-requires : tie.Need-has-words-requires
+has-words-requires c κs = search needs
 
 has-bytes-requires : tie.Need-has-bytes-requires
 has-bytes-requires c κs = search needs
@@ -33,7 +33,7 @@ returns-2 c =
     rw (
       le-ltb 65536 (length (c1 .before .before .before .args .line .now)) (c1 .before .before .before .pre),
       sym (c1 .before .is-passed .ensures) ∙ c1 .if1 .left,
-      rw (c .before .before .is-call .ensures, c .before .has-bytes .ensures) at (c .if2 .taken),
+      rw (c .before .before .has-words .ensures, c .before .has-bytes .ensures) at (c .if2 .taken),
     )
 
 number-at-requires : tie.Need-number-at-requires
@@ -53,7 +53,7 @@ returns-3 c =
     rw (
       le-ltb 65536 (length (c1 .before .before .before .args .line .now)) (c1 .before .before .before .pre),
       sym (c1 .before .is-passed .ensures) ∙ c1 .if1 .left,
-      rw (c2 .before .before .is-call .ensures, c2 .before .has-bytes .ensures) at (c2 .if2 .left),
+      rw (c2 .before .before .has-words .ensures, c2 .before .has-bytes .ensures) at (c2 .if2 .left),
       sym (c .before .before .number-at .ensures) ∙ c .enum-told2 .given .1,
     )
 
@@ -74,7 +74,7 @@ returns-4 c =
     rw (
       le-ltb 65536 (length (c1 .before .before .before .args .line .now)) (c1 .before .before .before .pre),
       sym (c1 .before .is-passed .ensures) ∙ c1 .if1 .left,
-      rw (c2 .before .before .is-call .ensures, c2 .before .has-bytes .ensures) at (c2 .if2 .left),
+      rw (c2 .before .before .has-words .ensures, c2 .before .has-bytes .ensures) at (c2 .if2 .left),
       sym (c .before .before .before .before .before .number-at .ensures) ∙ c .before .before .before .enum-told .given .1,
       sym (c .before .before .number-at2 .ensures) ∙ c .enum-told3 .given .1,
     )
@@ -90,7 +90,7 @@ returns-5 c =
     rw (
       le-ltb 65536 (length (c1 .before .before .before .args .line .now)) (c1 .before .before .before .pre),
       sym (c1 .before .is-passed .ensures) ∙ c1 .if1 .left,
-      rw (c2 .before .before .is-call .ensures, c2 .before .has-bytes .ensures) at (c2 .if2 .left),
+      rw (c2 .before .before .has-words .ensures, c2 .before .has-bytes .ensures) at (c2 .if2 .left),
       sym (c .before .before .before .before .before .before .before .number-at .ensures) ∙ c .before .before .before .before .before .enum-told .given .1,
       sym (c .before .before .before .before .number-at2 .ensures) ∙ c .before .before .n .given .1,
     ) (c .called .ensures)
@@ -101,8 +101,8 @@ command-of-spec =
     (tie.spec
     is-passed-requires
     returns
-    slice-aggregate-is-call
-    is-call-requires
+    slice-aggregate-has-words
+    has-words-requires
     has-bytes-requires
     returns-2
     number-at-requires

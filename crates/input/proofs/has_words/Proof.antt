@@ -1,8 +1,8 @@
 -- The callees' contracts.
 use borrow.Author.Needs.{needs}
-use Rattle.script.specs.Script.{isCall}
-use Rattle.script.proofs.is_call.Statement.{statement}
-use Rattle.script.proofs.is_call.Tie as tie
+use Rattle.input.specs.Words.{hasWords}
+use Rattle.input.proofs.has_words.Statement.{statement}
+use Rattle.input.proofs.has_words.Tie as tie
 
 word-requires : tie.Need-word-requires
 word-requires c κs = search needs
@@ -14,8 +14,8 @@ count-spaces-requires : tie.Need-count-spaces-requires
 count-spaces-requires c κs = search needs
 
 returns : tie.Need-returns
-unfolding isCall
+unfolding hasWords
 returns c = rw (c .before .same .ensures, c .count-spaces .ensures, c .before .before .word .ensures)
 
-pub is-call-spec : {M : Type 1} → statement M
-is-call-spec = tie.close (tie.spec word-requires same-requires count-spaces-requires returns)
+pub has-words-spec : {M : Type 1} → statement M
+has-words-spec = tie.close (tie.spec word-requires same-requires count-spaces-requires returns)
