@@ -26,8 +26,9 @@ struct Case {
     n: u64,
 }
 
-/// How often each measurement is made; the middle one counts.
-const TIMES: usize = 7;
+/// How often each measurement is made; the shortest counts, since other work of
+/// the machine can only add to it.
+const TIMES: usize = 15;
 
 /// The size of the device's State, in words of 8 bytes: 27,112 bytes.
 const WORDS: usize = 3_389;
@@ -142,9 +143,12 @@ fn through(state: Bytes) -> Bytes {
 
 /// Nanoseconds a call, without what 0 calls cost. All calls must be taken.
 fn nanoseconds(n: u64, run: impl Fn(u64) -> u64) -> f64 {
-    let mut times: Vec<Duration> = (0..TIMES).map(|_| time(n, &run).saturating_sub(time(0, &run))).collect();
-    times.sort();
-    times[TIMES / 2].as_nanos() as f64 / n as f64
+    shortest(n, &run).saturating_sub(shortest(0, &run)).as_nanos() as f64 / n as f64
+}
+
+/// The shortest time that n calls took.
+fn shortest(n: u64, run: &impl Fn(u64) -> u64) -> Duration {
+    (0..TIMES).map(|_| time(n, run)).min().unwrap_or_default()
 }
 
 /// How long n calls take.
