@@ -365,12 +365,6 @@ pub fn put_reply(into: &mut [u8], at: usize, command: Command, number: u8, bytes
     match command {
         Command::Passed => at,
         Command::Wrong => output::put_bytes(into, at, b"error\n"),
-        Command::Open => put_answer(into, at, number, bytes),
-        Command::Connect(_) => put_answer(into, at, number, bytes),
-        Command::Disconnect(_) => put_answer(into, at, number, bytes),
-        Command::Tick(_) => put_answer(into, at, number, bytes),
-        Command::Reading(_, _) => put_answer(into, at, number, bytes),
-        Command::Log(_) => put_answer(into, at, number, bytes),
-        Command::Line(_) => put_answer(into, at, number, bytes),
+        _ => put_answer(into, at, number, bytes),
     }
 }

@@ -46,16 +46,13 @@ abbrev pub giving : Number → List ℕ → Entry
 giving Bad v = Line
 giving (Is s) v = cond (isWhole v) (Reading s (fitting (integerOf (readInteger v)))) Line
 
--- a line whose first word is this, with so many more words, and that is no longer than a line of the server
-unfoldable pub isKind : List ℕ → ℕ → List ℕ → Bool
-isKind word more line = not (ltb 2048 (length line)) && hasWords word more line
-
--- what an input line is
+-- what an input line is; none of over 2,048 bytes is of the two kinds
 unfoldable pub entryOf : List ℕ → Entry
 entryOf line =
-    cond (isKind (text "@") 1 line) (ticking (natural (wordAt 1 line) (readDecimal (wordAt 1 line))))
-    (cond (isKind (text "=") 2 line) (giving (natural (wordAt 1 line) (readDecimal (wordAt 1 line))) (wordAt 2 line))
-    Line)
+    cond (ltb 2048 (length line)) Line
+    (cond (hasWords (text "@") 1 line) (ticking (natural (wordAt 1 line) (readDecimal (wordAt 1 line))))
+    (cond (hasWords (text "=") 2 line) (giving (natural (wordAt 1 line) (readDecimal (wordAt 1 line))) (wordAt 2 line))
+    Line))
 
 -- the call that it makes
 unfoldable pub actionBy : List ℕ → Entry → Action

@@ -62,13 +62,6 @@ fn integer_reading(t: &[u8]) -> Reading
     Reading::Integer(x)
 }
 
-// Whether the first word of a line is `word`, with so many more words.
-fn is_kind(line: &[u8], word: &[u8], more: usize) -> bool
-    ensures { λ r. ⌜ r ≡ entries.isKind (now (word .entry)) more (now (line .entry)) ⌝ }
-{
-    !(2048 < line.len()) & input::has_words(line, word, more)
-}
-
 // `@ n`.
 fn tick_entry(line: &[u8]) -> Entry
     ensures { λ r. ⌜ r ≡ entries.ticking (entries.natural (wordAt 1 (now (line .entry))) (readDecimal (wordAt 1 (now (line .entry))))) ⌝ }
@@ -97,10 +90,13 @@ fn reading_entry(line: &[u8]) -> Entry
 fn entry_of(line: &[u8]) -> Entry
     ensures { λ r. ⌜ r ≡ entries.entryOf (now (line .entry)) ⌝ }
 {
-    if is_kind(line, b"@", 1) {
+    if 2048 < line.len() {
+        return Entry::Line;
+    }
+    if input::has_words(line, b"@", 1) {
         return tick_entry(line);
     }
-    if is_kind(line, b"=", 2) {
+    if input::has_words(line, b"=", 2) {
         return reading_entry(line);
     }
     Entry::Line
