@@ -1,8 +1,8 @@
 -- Calls one after another, one more at a time.
-use Prim.Native.Nat.{ℕ, suc, _+_, _≤_}
+use Prim.Native.Nat.{ℕ, _+_, _≤_}
 use native.Mathlib.Numerals.{add-one}
 use native.Mathlib.Omega.{arith}
-use mathlib.Core.Path.{_≡_, refl, ap, sym, _∙_}
+use mathlib.Core.Path.{_≡_, refl, _∙_}
 use mathlib.Core.Bool.{Bool, true, false, cond}
 use mathlib.Core.List.{List}
 use Rattle.machine.specs.declared.State.{State}
@@ -10,7 +10,6 @@ use Rattle.machine.specs.declared.Answer.{Answer}
 use lib.Dec.{eqb}
 use Rattle.machine.specs.Declined.{Action, callOf}
 use Rattle.machine.specs.Machine.{step, answerOf, outputOf}
-use Rattle.bench.specs.declared.Repeated.{Repeated}
 use Rattle.bench.specs.Runs.{Run, begun, runs, repeated}
 
 -- the state, the count and the output after k calls

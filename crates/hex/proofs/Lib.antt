@@ -1,2 +1,1 @@
 pub mod HexLaws
-pub mod RestLaws

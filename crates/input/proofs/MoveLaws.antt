@@ -9,8 +9,9 @@ use mathlib.Core.Bool.{true, false}
 use borrow.Author.Tests.{eq-eqb, ne-eqb}
 use lib.Dec.{eqb}
 use lib.ListN.{length, take, drop, getD, set, length-take, length-drop}
-use lib.Seq.{take-append-seam, paste, paste-suc, length-paste, getD-append-add, getD-drop, length-take-le}
+use lib.Seq.{paste, paste-suc, length-paste, getD-append-add, getD-drop, length-take-le}
 use Rattle.output.specs.Output.{laid}
+use Rattle.line.proofs.At.{up-to-end}
 use Rattle.input.specs.declared.Window.{Window}
 use Rattle.input.specs.Window.{pending, kept, first}
 
@@ -21,7 +22,7 @@ laid-own (suc m) [] = refl
 laid-own (suc m) (x ∷ xs) = ap (λ (l : List ℕ). x ∷ l) (laid-own m xs)
 
 take-own : (m : ℕ) (xs : List ℕ) → take (length (take m xs)) xs ≡ take m xs
-take-own m xs = ap (take (length (take m xs))) (laid-own m xs) ∙ take-append-seam (take m xs) (drop (length (take m xs)) xs)
+take-own m xs = rw length-take (up-to-end m xs .0)
 
 -- n bytes laid on another text
 laid-paste : (buf s : List ℕ) (n : ℕ) → n ≤ length s → laid (take n s) buf ≡ paste buf 0 s n

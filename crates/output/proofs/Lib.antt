@@ -1,4 +1,5 @@
 pub mod OutputLaws
+pub mod RestLaws
 pub mod NumberLaws
 pub mod TextLaws
 pub mod RunLaws

@@ -1,34 +1,16 @@
 -- A line on a device: what is lent of the output, and what is made of the parts.
-use Prim.Native.Nat.{ℕ, min, _≤_, _<_}
-use native.Mathlib.Omega.{arith}
-use mathlib.Core.Path.{_≡_, refl, sym, ap, _∙_}
-use mathlib.Core.Bool.{Bool, true, false}
+use Prim.Native.Nat.{ℕ, min, _<_}
+use mathlib.Core.Path.{_≡_, sym, ap, _∙_}
 use mathlib.Core.List.{List, _++_}
-use lib.Dec.{leb}
-use lib.ListN.{length, take, drop, take-append-drop, drop-of-length-le}
-use lib.Seq.{take-all}
-use borrow.Author.Tests.{leb-true, leb-false, lt-ltb}
+use lib.ListN.{length, take, drop, take-append-drop}
+use borrow.Author.Tests.{lt-ltb}
+use Rattle.line.proofs.At.{up-to-end}
 use Rattle.machine.specs.declared.State.{State}
 use Rattle.machine.specs.declared.Answer.{Answer}
 use Rattle.script.specs.declared.Command.{Command}
 use Rattle.script.specs.declared.Command.the-variants.{Wrong}
 use Rattle.script.specs.Script.{commandOf, lentBy}
 use Rattle.script.specs.Replay.{asking, quiet, answered, left, performed, outputAfter}
-
--- more than there is is all there is
-all-there-is : (n : ℕ) (xs : List ℕ) → (take (min n (length xs)) xs ≡ take n xs) × (drop (min n (length xs)) xs ≡ drop n xs)
-all-there-is n xs = go (leb n (length xs)) refl
-  where
-    go : (b : Bool) → leb n (length xs) ≡ b → (take (min n (length xs)) xs ≡ take n xs) × (drop (min n (length xs)) xs ≡ drop n xs)
-    go true e =
-        let h = leb-true n (length xs) e in
-        let m : min n (length xs) ≡ n = omega arith in
-        (ap (λ (k : ℕ). take k xs) m, ap (λ (k : ℕ). drop k xs) m)
-    go false e =
-        let h = leb-false n (length xs) e in
-        let m : length xs ≤ min n (length xs) = omega arith in
-        let o : length xs ≤ n = omega arith in
-        (take-all _ xs m ∙ sym (take-all n xs o), drop-of-length-le xs m ∙ sym (drop-of-length-le xs o))
 
 module _ (s : State) (line out : List ℕ) where
   pub too-long : {a : Answer} → 65536 < length line → a ≡ quiet 0 s → (record { command = Wrong; answer = a } ≡ performed s line out) × (out ≡ outputAfter s line out)
@@ -42,7 +24,7 @@ module _ (s : State) (line out : List ℕ) where
       → (record { command = c; answer = a } ≡ performed s line out) × (part ++ drop n out ≡ outputAfter s line out)
   unfolding performed outputAfter
   made {c} {n} {a} {part} e m k =
-      let l = all-there-is (lentBy line) out in
+      let l = up-to-end (lentBy line) out in
       let t : take n out ≡ take (lentBy line) out = ap (λ (j : ℕ). take j out) m ∙ l .0 in
       let d : drop n out ≡ drop (lentBy line) out = ap (λ (j : ℕ). drop j out) m ∙ l .1 in
       (rw (k .0, t, e), rw (k .1, t, d, e))

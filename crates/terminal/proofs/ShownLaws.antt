@@ -1,17 +1,14 @@
 -- The lines of a client among deliveries, one delivery after another.
 use Prim.Native.Nat.{ℕ, zero, suc, _+_, _-_, _*_, _≤_, _<_, min}
 use native.Mathlib.Omega.{arith}
-use mathlib.Core.Path.{_≡_, refl, ap, sym, _∙_}
+use mathlib.Core.Path.{_≡_, refl}
 use mathlib.Core.Bool.{Bool, true, false, cond}
 use mathlib.Core.List.{List, [], _∷_, _++_}
-use borrow.Author.Tests.{ltb-true, ltb-false}
-use lib.Dec.{eqb, ltb}
-use lib.ListN.{length, take, drop, getD, length-drop, drop-of-length-le}
-use lib.Seq.{take-all, drop-drop}
-use Rattle.output.specs.Output.{Output, putAll, Wrote}
-use Rattle.output.proofs.OutputLaws.{putAll-append}
+use lib.Dec.{eqb}
+use lib.ListN.{length, take, drop, getD, length-drop}
+use lib.Seq.{drop-drop}
 use Rattle.message.specs.Delivery.{cutIn, cut}
-use Rattle.line.proofs.At.{at, at2}
+use Rattle.line.proofs.At.{at, at2, up-to-end}
 use Rattle.machine.specs.Places.{joined}
 use Rattle.machine.specs.TwoDevices.{linesTo}
 use Rattle.terminal.specs.Shown.{shownTo}
@@ -51,15 +48,6 @@ shown-none c (b ∷ []) h = refl
 shown-none c (b ∷ d ∷ []) h = refl
 shown-none c (b ∷ d ∷ e ∷ s) h = absurd (omega arith)
 
--- a count past the end of a list is its length
-module _ (m n : ℕ) (w : List ℕ) (e : m ≡ min n (length w)) where
-  within : (t : Bool) → ltb n (length w) ≡ t → (take m w ≡ take n w) × (drop m w ≡ drop n w)
-  within true h = let q : m ≡ n = omega (arith, ltb-true n (length w) h) in (ap (λ (k : ℕ). take k w) q, ap (λ (k : ℕ). drop k w) q)
-  within false h =
-      let p : length w ≤ n = ltb-false n (length w) h in
-      let q : length w ≤ m = omega arith in
-      (take-all m w q ∙ sym (take-all n w p), drop-of-length-le w q ∙ sym (drop-of-length-le w p))
-
 -- from one delivery to the next, which starts at `to`
 pub shown-more : (c : ℕ) (s : List ℕ) (i to : ℕ) → i + 3 ≤ length s
     → to ≡ min (i + 3 + (getD s (i + 1) 0 * 256 + getD s (i + 2) 0)) (length s)
@@ -68,12 +56,9 @@ shown-more c s i to h e =
     let n = getD s (i + 1) 0 * 256 + getD s (i + 2) 0 in
     let w = drop (i + 3) s in
     let l : length w ≡ length s - (i + 3) = length-drop (i + 3) s in
-    let parts = within (to - (i + 3)) n w (omega arith) (ltb n (length w)) refl in
+    let m : to - (i + 3) ≡ min n (length w) = omega arith in
+    let parts = up-to-end n w in
     let a : i + 3 ≡ i + 2 + 1 = omega arith in
     let b : i + 3 + (to - (i + 3)) ≡ to = omega arith in
-    let rest : drop to s ≡ drop n w = rw (← b, ← drop-drop (to - (i + 3)) (i + 3) s) (parts .1) in
-    rw (at2 s i (omega arith), at s (i + 2) (omega arith), ← a, shown-cons, parts .0, rest)
-
--- what is still to be written, after the first of it was written
-pub carried : {p q r : Output} {bs : List ℕ} (cs : List ℕ) → Wrote p bs q → putAll p (bs ++ cs) ≡ r → putAll q cs ≡ r
-carried {p} {q} {r} {bs} cs e f = rw (e .is) (sym (putAll-append bs cs p) ∙ f)
+    let rest : drop to s ≡ drop n w = rw (← b, ← drop-drop (to - (i + 3)) (i + 3) s, m) (parts .1) in
+    rw (at2 s i (omega arith), at s (i + 2) (omega arith), ← a, shown-cons, m, parts .0, rest)

@@ -7,7 +7,7 @@ use Rattle.output.specs.Output.{output}
 use Rattle.output.proofs.OutputLaws as O
 use Rattle.hex.specs.Hex.{bytesOf}
 use Rattle.hex.proofs.HexLaws as H
-use Rattle.hex.proofs.RestLaws as R
+use Rattle.output.proofs.RestLaws as R
 use Rattle.hex.proofs.put_bytes_of.Statement.{statement}
 use Rattle.hex.proofs.put_bytes_of.Tie as tie
 

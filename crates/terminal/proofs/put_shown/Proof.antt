@@ -2,26 +2,24 @@
 use borrow.Author.Needs.{needs}
 use native.Mathlib.Omega.{arith}
 use Prim.Native.Nat.{_≤_, _-_}
-use mathlib.Core.Path.{_≡_, _∙_}
 use lib.ListN.{length, drop, length-drop}
+use Rattle.output.specs.Output.{output}
 use Rattle.output.proofs.OutputLaws.{same}
-use Rattle.output.specs.Output.{output, putAll}
+use Rattle.output.proofs.RestLaws as R
 use Rattle.terminal.specs.Shown.{shownTo}
-use Rattle.terminal.proofs.ShownLaws.{shown-none, shown-more, carried}
+use Rattle.terminal.proofs.ShownLaws.{shown-none, shown-more}
 use Rattle.terminal.proofs.put_shown.Statement.{statement}
 use Rattle.terminal.proofs.put_shown.Tie as tie
 
 abbrev Inv-loop : tie.InvT-loop
 Inv-loop into₀ at client bytes p₀ i₀ into p i =
-    (i ≤ length bytes)
-    × ((length into ≡ length into₀)
-    × (putAll (output into p) (shownTo client (drop i bytes)) ≡ putAll (output into₀ at) (shownTo client bytes)))
+    (i ≤ length bytes) × R.Rest (output into₀ at) (shownTo client bytes) (output into p) (shownTo client (drop i bytes))
 
 abbrev μ-loop : tie.MeasureT-loop
 μ-loop into₀ at client bytes p₀ i₀ into p i = length bytes - i
 
 loop-holds : tie.Need-loop-holds Inv-loop μ-loop
-loop-holds c = search needs
+loop-holds c = (omega arith, R.none-yet _ _)
 
 add-loop : tie.Need-add-loop Inv-loop μ-loop
 add-loop c = search needs
@@ -68,17 +66,19 @@ loop-again c =
     let client = c .before .before .before .before .before .before .before .before .before .before .before .before .before .args .client in
     let turn = c .before .before .before .before .before .before .before .before .before .before .loop in
     let to = c .before .before .before .before .before .before .line-end .result in
-    let wrote = c .before .before .put-if .ensures in
-    (omega arith, (same wrote ∙ turn .inv .1 .0, carried (shownTo client (drop to s)) wrote (rw (← shown-more client s (turn .i) to (omega arith) (c .before .before .before .before .before .before .line-end .ensures)) (turn .inv .1 .1))))
+    (omega arith, R.one-more (turn .inv .1) (shownTo client (drop to s)) (c .before .before .put-if .ensures) (shown-more client s (turn .i) to (omega arith) (c .before .before .before .before .before .before .line-end .ensures)))
 
 same-length : tie.Need-same-length Inv-loop μ-loop
-same-length c = search needs
+same-length c =
+    let s = c .before .before .before .before .args .bytes .now in
+    let turn = c .before .loop in
+    same (R.all-written (turn .inv .1) (shown-none (c .before .before .before .before .args .client) (drop (turn .i) s) (omega (arith, length-drop (turn .i) s))))
 
 returns : tie.Need-returns Inv-loop μ-loop
 returns c =
     let s = c .before .before .before .before .args .bytes .now in
     let turn = c .before .loop in
-    record { is = rw (shown-none (c .before .before .before .before .args .client) (drop (turn .i) s) (omega (arith, length-drop (turn .i) s))) at (turn .inv .1 .1) }
+    R.all-written (turn .inv .1) (shown-none (c .before .before .before .before .args .client) (drop (turn .i) s) (omega (arith, length-drop (turn .i) s)))
 
 pub put-shown-spec : {M : Type 1} → statement M
 put-shown-spec =
