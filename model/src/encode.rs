@@ -3,7 +3,7 @@
 //! It is the script format with these additions:
 //!
 //! - a word in double quotes is text, turned into hex; inside the quotes `\"`,
-//!   `\\`, `\n`, `\r`, `\t`, `\0`, `\e` and `\xHH` stand for bytes, and `""`
+//!   `\\`, `\0`, `\n`, `\r`, `\e`, `\t` and `\xHH` stand for bytes, and `""`
 //!   gives `-`; after the quotes `*N` repeats the text N times, and `+` joins
 //!   it to another quoted text;
 //! - `sheet API BUILD` begins a sheet, `sensor NAME DESCRIPTION UNITS TYPE` adds
@@ -130,16 +130,16 @@ fn one_quoted(text: &str) -> Option<(Vec<u8>, &str)> {
 /// An escape's byte, and the length of its code.
 fn escape(code: &[u8]) -> Option<(u8, usize)> {
     match code.first()? {
+        &byte @ (b'"' | b'\\') => Some((byte, 1)),
+        b'0' => Some((0, 1)),
         b'n' => Some((10, 1)),
         b'r' => Some((13, 1)),
-        b't' => Some((9, 1)),
-        b'0' => Some((0, 1)),
         b'e' => Some((27, 1)),
+        b't' => Some((9, 1)),
         b'x' => {
             let digits = std::str::from_utf8(code.get(1..3)?).ok()?;
             Some((u8::from_str_radix(digits, 16).ok()?, 3))
         }
-        &byte @ (b'"' | b'\\') => Some((byte, 1)),
         _ => None,
     }
 }

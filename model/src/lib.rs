@@ -1,8 +1,8 @@
 //! A model of the KATCP server of the lift group unit.
 //!
-//! It is written from document 01 and the KATCP guideline alone, as a second
-//! opinion on what they say. Above each function of the server stand the words
-//! of document 01 that it renders. The rest answers scripts of calls, makes
+//! It is written from documents 01 and 02 and the KATCP guideline alone, as a
+//! second opinion on what they say. Above each function of the server stand
+//! their words that it renders. The rest answers scripts of calls, makes
 //! them, and compares another program's answers with the model's.
 
 pub mod compare;

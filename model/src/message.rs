@@ -56,7 +56,8 @@ fn is_space(byte: u8) -> bool {
     byte == b' ' || byte == b'\t'
 }
 
-/// "Those seven bytes never stand raw.": backslash, space, 0, 10, 13, 27, 9.
+/// "Those seven bytes never stand raw.": "backslash, space, null, newline,
+/// return, escape, tab".
 fn is_plain(byte: u8) -> bool {
     !matches!(byte, b'\\' | b' ' | 0 | 10 | 13 | 27 | 9)
 }
@@ -154,17 +155,19 @@ impl Reader<'_> {
 }
 
 /// "escapes: `\\` backslash, `\_` space, `\0` byte 0, `\n` 10, `\r` 13, `\e` 27,
-/// `\t` 9, `\@` nothing." The outer option is empty for any other byte.
+/// `\t` 9, `\@` nothing.", taken "in the order of the standard's own text:
+/// backslash, space, null, newline, return, escape, tab, empty". The outer
+/// option is empty for any other byte.
 fn unescape(code: u8) -> Option<Option<u8>> {
     match code {
-        b'\\' => Some(Some(b'\\')),
-        b'_' => Some(Some(b' ')),
-        b'0' => Some(Some(0)),
-        b'n' => Some(Some(10)),
-        b'r' => Some(Some(13)),
-        b'e' => Some(Some(27)),
-        b't' => Some(Some(9)),
-        b'@' => Some(None),
+        b'\\' => Some(Some(b'\\')), // backslash
+        b'_' => Some(Some(b' ')),   // space
+        b'0' => Some(Some(0)),      // null
+        b'n' => Some(Some(10)),     // newline
+        b'r' => Some(Some(13)),     // return
+        b'e' => Some(Some(27)),     // escape
+        b't' => Some(Some(9)),      // tab
+        b'@' => Some(None),         // empty
         _ => None,
     }
 }
@@ -194,11 +197,11 @@ impl Line {
     pub fn with(mut self, argument: impl AsRef<[u8]>) -> Line {
         let argument = argument.as_ref();
         self.bytes.push(b' ');
-        if argument.is_empty() {
-            self.bytes.extend_from_slice(b"\\@");
-        }
         for &byte in argument {
             self.push_escaped(byte);
+        }
+        if argument.is_empty() {
+            self.bytes.extend_from_slice(b"\\@"); // empty
         }
         self
     }
@@ -206,13 +209,13 @@ impl Line {
     /// "`\\` backslash, `\_` space, `\0` byte 0, `\n` 10, `\r` 13, `\e` 27, `\t` 9".
     fn push_escaped(&mut self, byte: u8) {
         let code = match byte {
-            b'\\' => b'\\',
-            b' ' => b'_',
-            0 => b'0',
-            10 => b'n',
-            13 => b'r',
-            27 => b'e',
-            9 => b't',
+            b'\\' => b'\\', // backslash
+            b' ' => b'_',   // space
+            0 => b'0',      // null
+            10 => b'n',     // newline
+            13 => b'r',     // return
+            27 => b'e',     // escape
+            9 => b't',      // tab
             plain => return self.bytes.push(plain),
         };
         self.bytes.extend_from_slice(&[b'\\', code]);

@@ -13,11 +13,11 @@ pub fn quoted(bytes: &[u8]) -> String {
         match byte {
             b'"' => text.push_str("\\\""),
             b'\\' => text.push_str("\\\\"),
+            0 => text.push_str("\\0"),
             10 => text.push_str("\\n"),
             13 => text.push_str("\\r"),
-            9 => text.push_str("\\t"),
-            0 => text.push_str("\\0"),
             27 => text.push_str("\\e"),
+            9 => text.push_str("\\t"),
             0x20..=0x7E => text.push(char::from(byte)),
             other => write!(text, "\\x{other:02x}").expect("text"),
         }

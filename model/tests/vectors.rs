@@ -1,5 +1,5 @@
-//! The scripts written by hand: after a call `;= NUMBER` and `;> CLIENT LINE`
-//! give what it must be answered.
+//! The scripts with the answers that the papers give: after a call `;= NUMBER`
+//! and `;> CLIENT LINE` give what it must be answered.
 
 use model::encode::encode;
 use model::script::Session;
@@ -42,8 +42,8 @@ fn check(name: &str, text: &str) -> usize {
 }
 
 #[test]
-fn written_by_hand() {
-    for (name, text) in model::vectors::WRITTEN {
-        assert!(check(name, text) > 5, "{name}");
+fn answered_so() {
+    for (name, text) in model::vectors::with_answers() {
+        assert!(check(name, &text) > 5, "{name}");
     }
 }

@@ -36,10 +36,10 @@ nameByte b = letter b || (isDigit b || eqb b (code "-"))
 unfoldable pub kindByte : ℕ → Bool
 kindByte b = eqb b (code "?") || (eqb b (code "!") || eqb b (code "#"))
 
--- the byte that a letter stands for after a backslash: in the table, or `@` for nothing
+-- the byte that a letter stands for after a backslash: in the table, or behind it `@` for nothing
 abbrev pub byLetter : List Escape → ℕ → Meaning
-byLetter [] c = cond (eqb c (code "@")) Nothing Unknown
 byLetter (e ∷ es) c = cond (eqb c (e .letter)) (Byte (e .byte)) (byLetter es c)
+byLetter [] c = cond (eqb c (code "@")) Nothing Unknown
 
 -- what a backslash and c stand for
 unfoldable pub escapeOf : ℕ → Meaning
@@ -79,15 +79,15 @@ abbrev mutual
 
 -- an escape that document 01 has
 abbrev pub known : Meaning → Bool
-known Unknown = false
-known Nothing = true
 known (Byte b) = true
+known Nothing = true
+known Unknown = false
 
 -- the bytes that an escape stands for
 abbrev pub meant : Meaning → List ℕ
-meant Unknown = []
-meant Nothing = []
 meant (Byte b) = b ∷ []
+meant Nothing = []
+meant Unknown = []
 
 abbrev mutual
   -- a word is plain bytes and escapes

@@ -83,35 +83,35 @@ fn kind_byte(b: u8) -> bool
     (b == b'?') | ((b == b'!') | (b == b'#'))
 }
 
-// A byte that stands raw in an argument.
+// A byte that stands raw in an argument: none of the seven that are escaped.
 fn plain(b: u8) -> bool
     ensures { λ r. ⌜ r ≡ spec.plain b ⌝ }
 {
     match b {
-        b'\\' => false,
-        b' ' => false,
-        0 => false,
-        10 => false,
-        13 => false,
-        27 => false,
-        9 => false,
+        b'\\' => false, // backslash
+        b' ' => false, // space
+        0 => false, // null
+        10 => false, // newline
+        13 => false, // return
+        27 => false, // escape
+        9 => false, // tab
         _ => true,
     }
 }
 
-// What the byte after a backslash stands for.
+// What the byte after a backslash stands for, in the guideline's sequence.
 fn escape(c: u8) -> Meaning
     ensures { λ r. ⌜ r ≡ spec.escapeOf c ⌝ }
 {
     match c {
-        b'\\' => Meaning::Byte(b'\\'),
-        b'_' => Meaning::Byte(b' '),
-        b'0' => Meaning::Byte(0),
-        b'n' => Meaning::Byte(10),
-        b'r' => Meaning::Byte(13),
-        b'e' => Meaning::Byte(27),
-        b't' => Meaning::Byte(9),
-        b'@' => Meaning::Nothing,
+        b'\\' => Meaning::Byte(b'\\'), // backslash
+        b'_' => Meaning::Byte(b' '), // space
+        b'0' => Meaning::Byte(0), // null
+        b'n' => Meaning::Byte(10), // newline
+        b'r' => Meaning::Byte(13), // return
+        b'e' => Meaning::Byte(27), // escape
+        b't' => Meaning::Byte(9), // tab
+        b'@' => Meaning::Nothing, // empty
         _ => Meaning::Unknown,
     }
 }

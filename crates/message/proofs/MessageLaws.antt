@@ -35,10 +35,11 @@ unfolding escape
 whole [] i n h e = absurd (omega arith)
 whole (b ∷ s) i n h e = rw (take-all i (b ∷ s) h) at e
 
-pub empty : (s : List ℕ) → length s ≡ 0 → text "\\@" ≡ escape s
+-- an empty argument: no byte, and then what stands for it
+pub empty : {p q r : Output} (s : List ℕ) (i : ℕ) → length s ≡ 0 → Wrote p (escapeAll (take i s)) q → Wrote q (text "\\@") r → Wrote p (escape s) r
 unfolding escape
-empty [] h = refl
-empty (b ∷ s) h = absurd (omega arith)
+empty [] i h e f = then (rw (take-all {A = ℕ} i [] (omega arith)) at e) f
+empty (b ∷ s) i h e f = absurd (omega arith)
 
 pub id-none : (n : ℕ) → n ≡ 0 → [] ≡ idText n
 unfolding idText

@@ -27,13 +27,19 @@ pub record Escape : Type 0 where
 abbrev pub for : ℕ → ℕ → Escape
 for letter byte = record { letter = letter; byte = byte }
 
--- "`\\` backslash, `\_` space, `\0` byte 0, `\n` 10, `\r` 13, `\e` 27, `\t` 9"
+-- "`\\` backslash, `\_` space, `\0` byte 0, `\n` 10, `\r` 13, `\e` 27, `\t` 9"; the sequence and the words are those of document 02, (c)
 abbrev pub escapes : List Escape
 escapes =
-    for (code "\\") (code "\\") ∷ for (code "_") (code " ") ∷ for (code "0") 0 ∷ for (code "n") 10
-    ∷ for (code "r") 13 ∷ for (code "e") 27 ∷ for (code "t") 9 ∷ []
+    for (code "\\") (code "\\")  -- backslash
+    ∷ for (code "_") (code " ")  -- space
+    ∷ for (code "0") 0  -- null
+    ∷ for (code "n") 10  -- newline
+    ∷ for (code "r") 13  -- return
+    ∷ for (code "e") 27  -- escape
+    ∷ for (code "t") 9  -- tab
+    ∷ []
 
--- "`\@` nothing"
+-- "`\@` nothing": the last of that sequence, empty
 abbrev pub nothing : List ℕ
 nothing = text "\\@"
 
@@ -53,8 +59,8 @@ escapeAll (b ∷ bs) = escapeByte b ++ escapeAll bs
 
 -- an argument as it is written: "`\@` only for an empty argument"
 unfoldable pub escape : List ℕ → List ℕ
-escape [] = nothing
 escape (b ∷ bs) = escapeAll (b ∷ bs)
+escape [] = nothing
 
 -- "Written lines use one space": an argument with the space before it
 unfoldable pub arg : List ℕ → List ℕ

@@ -17,34 +17,34 @@ fn put_pair(out: &mut [u8], at: usize, letter: u8) -> usize
     output::put_byte(out, p, letter)
 }
 
-// One byte of an argument.
+// One byte of an argument: the escapes in the guideline's sequence, all other bytes as they are.
 fn put_escape(out: &mut [u8], at: usize, b: u8) -> usize
     ensures { λ r. ⌜ Wrote (output (now (out .entry)) at) (escapeByte b) (output (now (out .exit)) r) ⌝ }
 {
     match b {
-        b'\\' => put_pair(out, at, b'\\'),
-        b' ' => put_pair(out, at, b'_'),
-        0 => put_pair(out, at, b'0'),
-        10 => put_pair(out, at, b'n'),
-        13 => put_pair(out, at, b'r'),
-        27 => put_pair(out, at, b'e'),
-        9 => put_pair(out, at, b't'),
+        b'\\' => put_pair(out, at, b'\\'), // backslash
+        b' ' => put_pair(out, at, b'_'), // space
+        0 => put_pair(out, at, b'0'), // null
+        10 => put_pair(out, at, b'n'), // newline
+        13 => put_pair(out, at, b'r'), // return
+        27 => put_pair(out, at, b'e'), // escape
+        9 => put_pair(out, at, b't'), // tab
         _ => output::put_byte(out, at, b),
     }
 }
 
-// An argument with its escapes.
+// An argument with its escapes; the last of their sequence, empty, is asked of the whole argument.
 fn put_escaped(out: &mut [u8], at: usize, s: &[u8]) -> usize
     ensures { λ r. ⌜ Wrote (output (now (out .entry)) at) (escape (now (s .entry))) (output (now (out .exit)) r) ⌝ }
 {
-    if s.len() == 0 {
-        return put_pair(out, at, b'@');
-    }
     let mut p = at;
     let mut i = 0;
     while i < s.len() {
         p = put_escape(out, p, s[i]);
         i += 1;
+    }
+    if s.len() == 0 {
+        return put_pair(out, p, b'@'); // empty
     }
     p
 }

@@ -1,11 +1,10 @@
--- The escapes of the bytes passed; an empty argument has its own.
+-- The escapes of the bytes passed; an empty argument has passed none, and gets its own behind them.
 use borrow.Author.Needs.{needs}
 use native.Mathlib.Omega.{arith}
 use mathlib.Core.Path.{_≡_, refl}
 use Prim.Native.Nat.{_≤_, _-_}
 use lib.ListN.{length, take}
 use Rattle.output.specs.Output.{output, Wrote}
-use Rattle.output.proofs.OutputLaws.{said}
 use Rattle.message.specs.Message.{escapeAll}
 use Rattle.message.proofs.MessageLaws.{more, whole, empty}
 use Rattle.message.proofs.put_escaped.Statement.{statement}
@@ -17,23 +16,11 @@ Inv-loop out₀ at s p₀ i₀ out p i = (i ≤ length s) × (length out ≡ len
 abbrev μ-loop : tie.MeasureT-loop
 μ-loop out₀ at s p₀ i₀ out p i = length s - i
 
-put-pair-requires : tie.Need-put-pair-requires Inv-loop μ-loop
-put-pair-requires c κs = search needs
-
-same-length : tie.Need-same-length Inv-loop μ-loop
-same-length c = search needs
-
-returns : tie.Need-returns Inv-loop μ-loop
-returns c = said (c .before .before .put-pair .ensures) (empty (c .before .before .before .before .before .before .before .args .s .now) (omega arith))
-
 loop-holds : tie.Need-loop-holds Inv-loop μ-loop
 loop-holds c = (search needs, refl, record { is = refl })
 
 shared-slice-read-put-escape : tie.Need-shared-slice-read-put-escape Inv-loop μ-loop
 shared-slice-read-put-escape c = omega arith
-
-put-escape-requires : tie.Need-put-escape-requires Inv-loop μ-loop
-put-escape-requires c κs = search needs
 
 add-i : tie.Need-add-i Inv-loop μ-loop
 add-i c = omega arith
@@ -44,27 +31,17 @@ loop-less c = omega arith
 loop-again : tie.Need-loop-again Inv-loop μ-loop
 loop-again c = (omega arith, omega arith, search (more, arith))
 
-same-length-2 : tie.Need-same-length-2 Inv-loop μ-loop
-same-length-2 c = search needs
+same-length : tie.Need-same-length Inv-loop μ-loop
+same-length c = omega arith
+
+returns : tie.Need-returns Inv-loop μ-loop
+returns c = search (empty, needs)
 
 returns-2 : tie.Need-returns-2 Inv-loop μ-loop
 returns-2 c =
-    whole (c .before .before .before .before .before .args .s .now) (c .before .loop .i) (omega arith) (omega arith) (c .before .loop .inv .2)
+    let l = c .before .before in
+    whole _ (l .loop .i) (omega arith) (omega arith) (l .loop .inv .2)
 
 pub put-escaped-spec : {M : Type 1} → statement M
 put-escaped-spec =
-    tie.close
-    (tie.spec
-    Inv-loop
-    μ-loop
-    put-pair-requires
-    same-length
-    returns
-    loop-holds
-    shared-slice-read-put-escape
-    put-escape-requires
-    add-i
-    loop-less
-    loop-again
-    same-length-2
-    returns-2)
+    tie.close (tie.spec Inv-loop μ-loop loop-holds shared-slice-read-put-escape (λ c κs. search needs) add-i loop-less loop-again (λ c κs. search needs) same-length returns (λ c. search needs) returns-2)
