@@ -42,7 +42,7 @@ fn check(name: &str, text: &str) -> usize {
 }
 
 #[test]
-fn answered_so() {
+fn answered_as_the_papers_say() {
     for (name, text) in model::vectors::with_answers() {
         assert!(check(name, &text) > 5, "{name}");
     }
