@@ -15,6 +15,7 @@ GRAPHIC = "".join(map(chr, range(0x21, 0x7F)))
 PRINTABLE = " " + GRAPHIC
 TIME, DAY = 9_999_999_999_999, 86_400_000
 BIAS = {1: 2**31, 2: 2**30}
+START_LEVEL = 3  # warn: document 02, (e), "A fresh device and a restarted one start at warn."
 LIMITS = ("limit_count", "nominal_min", "nominal_max", "warn_min", "warn_max")
 
 
@@ -47,7 +48,7 @@ BLANK = blank()
 
 def opened():
     s = blank()
-    s.update(api=array(32, "lgu-1.0"), api_len=7, build=array(32, "b7"), build_len=2, count=5, halted=0, level=4)
+    s.update(api=array(32, "lgu-1.0"), api_len=7, build=array(32, "b7"), build_len=2, count=5, halted=0, level=START_LEVEL)
     s["sensors"][:5] = [sensor("load", "Car load.", "kg", 1, (0, 1000, -5, 1200)), sensor("speed", "", "m/s", 2, (-2048, 2048)),
                         sensor("door", kind=4, options=("shut", "open", "moving")), sensor("call", kind=3), sensor("start", kind=5)]
     for j in range(5):

@@ -12,6 +12,8 @@ from fractions import Fraction
 NAME = set((string.ascii_letters + string.digits + ".-_").encode())
 GRAPHIC = set(range(0x21, 0x7F))
 PRINTABLE = set(range(0x20, 0x7F))
+LEVELS = ("off", "fatal", "error", "warn", "info", "debug", "trace", "all")
+START_LEVEL = LEVELS.index("warn")  # document 02, (e): "A fresh device and a restarted one start at warn."
 
 
 class Broken(Exception):
@@ -93,7 +95,7 @@ def shown(label, data):
         sheet = read_sheet(data)
     except Broken:
         return [label + ": 4"]
-    head = "%s: 0 | %s | %s | %d | 0.000 4" % (label, sheet["api"].decode(), sheet["build"].decode(), len(sheet["sensors"]))
+    head = "%s: 0 | %s | %s | %d | 0.000 %d" % (label, sheet["api"].decode(), sheet["build"].decode(), len(sheet["sensors"]), START_LEVEL)
     lines = []
     for s in sheet["sensors"]:
         limits = "".join(" " + value(s["type"], x) for x in s["limits"])

@@ -1,5 +1,6 @@
 //! The console: "The console opens `sheet.lgu`, connects client 0 as
-//! `console`, and prints its lines."
+//! `console`, and prints its lines." Document 02, (e): "it sends `?log-level
+//! info` after connecting".
 
 use crate::device::{Device, LEAST_OUTPUT};
 use crate::message::LONGEST_LINE;
@@ -103,6 +104,8 @@ pub fn serve(sheet: &[u8], numbers: bool, input: impl BufRead, mut output: impl 
     }
     let mut console = Console { device, out: Vec::new() };
     console.device.connect(LEAST_OUTPUT, 0, b"console", &mut console.out);
+    output.write_all(&console.shown())?;
+    console.perform(b"?log-level info");
     output.write_all(&console.shown())?;
     for line in input.split(b'\n') {
         let line = line?;

@@ -15,8 +15,11 @@ pub const LEVELS: [&str; 8] = ["off", "fatal", "error", "warn", "info", "debug",
 
 /// The places of three levels.
 pub const OFF: u8 = 0;
-pub const INFO: u8 = 4;
+pub const WARN: u8 = 3;
 pub const ALL: u8 = 7;
+
+/// Document 02, (e): "A fresh device and a restarted one start at warn."
+pub const START_LEVEL: u8 = WARN;
 
 /// "clients 0–7".
 pub const CLIENTS: usize = 8;
@@ -36,7 +39,7 @@ pub struct Client {
     pub subscriptions: Vec<Subscription>,
 }
 
-/// "State: clock (0), halted flag (clear), log level (info), per sensor a
+/// "State: clock (0), halted flag (clear), log level [...], per sensor a
 /// reading and its time (the clock at the reading), clients 0–7, each
 /// unconnected (all at first) or with address text". The visits counted at its
 /// end are no part of the machine.
@@ -86,14 +89,14 @@ impl Device {
 
     /// "Opening a sheet returns number and state"; "sheet breaks its layout |
     /// 4 | blank halted state"; "State: clock (0), halted flag (clear), log
-    /// level (info)"; "A fresh sensor is unknown at time 0."
+    /// level"; "A fresh sensor is unknown at time 0."
     pub fn open(sheet: &[u8]) -> (u8, Device) {
         let Some(sheet) = Sheet::read(sheet) else {
             return (4, Device::blank());
         };
         let fresh = Taken { time: 0, state: State::invalid(Status::Unknown) };
         let readings = vec![fresh; sheet.sensors.len()];
-        (0, Device { sheet, halted: false, level: INFO, readings, ..Device::blank() })
+        (0, Device { sheet, halted: false, level: START_LEVEL, readings, ..Device::blank() })
     }
 
     /// "output under 65,536 bytes | 2", "device halted | 3".

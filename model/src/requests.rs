@@ -1,6 +1,6 @@
 //! The ten requests.
 
-use crate::device::{Device, INFO, LEVELS};
+use crate::device::{Device, LEVELS, START_LEVEL};
 use crate::message::{Line, Message, Sort};
 use crate::number;
 use crate::sheet::{Kind, Sensor};
@@ -142,12 +142,12 @@ impl Device {
     }
 
     /// "`restart`: reply, then `#disconnect` ([...] `Device restarting.`) to
-    /// all; all are forgotten. [...] restart sets level info and keeps clock
+    /// all; all are forgotten. [...] restart sets level [...] and keeps clock
     /// and readings."
     fn restart(&mut self, asked: &mut Asked) -> Result<(), Refusal> {
         asked.no_argument()?;
         self.reply_and_forget_all(asked, "Device restarting.");
-        self.level = INFO;
+        self.level = START_LEVEL;
         Ok(())
     }
 

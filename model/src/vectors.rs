@@ -13,6 +13,7 @@ const BY_HAND: &[(&str, &str)] = &[
     ("sheets", include_str!("../vectors/sheets.txt")),
     ("values", include_str!("../vectors/values.txt")),
     ("machine", include_str!("../vectors/machine.txt")),
+    ("levels", include_str!("../vectors/levels.txt")),
     ("sampling", include_str!("../vectors/sampling.txt")),
     ("guideline", include_str!("../vectors/guideline.txt")),
     ("script", include_str!("../vectors/script.txt")),

@@ -68,11 +68,14 @@ impl Unit {
 }
 
 /// "Input: `@ 5000`, `?sensor-sampling load differential 10`, `= 0 10`, `= 0
-/// 20`, `= 0 21`, `?watchdog[7]`. Output: [...]"
+/// 20`, `= 0 21`, `?watchdog[7]`. Output: [...]"; document 02, (e): "The console
+/// [...] sends `?log-level info` after connecting, and the printed session gains
+/// `!log-level ok info` as its third line."
 #[test]
 fn session() {
     let mut unit = Unit::new(1, &[0, 1000]);
     let mut shown = lines(&unit.out);
+    shown += &unit.ask("?log-level info").1;
     shown += &unit.tick(5000);
     shown += &unit.ask("?sensor-sampling load differential 10").1;
     for value in [10, 20, 21] {
@@ -81,6 +84,7 @@ fn session() {
     shown += &unit.ask("?watchdog[7]").1;
     let expected = "#version-connect katcp-protocol 5.1-MIB
 #version-connect katcp-device lgu-1.0 b7
+!log-level ok info
 !sensor-sampling ok load differential 10
 #sensor-status 5.000 1 load unknown 0
 #sensor-status 5.000 1 load nominal 10

@@ -1,5 +1,5 @@
-//! The console of document 01: opens `sheet.lgu` in the folder that it is run in, connects client 0 as `console`, and prints its lines. An input
-//! line `@ n` ticks to n ms, `= s v` gives sensor s integer v, and every other line goes to the server.
+//! The console of document 01: opens `sheet.lgu` in the folder that it is run in, connects client 0 as `console`, asks for log entries from info
+//! on, and prints its lines. An input line `@ n` ticks to n ms, `= s v` gives sensor s integer v, and every other line goes to the server.
 use input::Window;
 use libc::STDERR_FILENO;
 use libc::STDOUT_FILENO;
@@ -77,7 +77,7 @@ fn complain(why: &[u8]) {
     io::write_all(STDERR_FILENO, why);
 }
 
-// Client 0 is connected to the unit of a sheet, and served.
+// Client 0 is connected to the unit of a sheet, asks for info, and is served.
 fn run(sheet: &[u8]) {
     let opened = device::open(sheet);
     if opened.number != 0 {
@@ -85,10 +85,12 @@ fn run(sheet: &[u8]) {
         return;
     }
     let mut out = io::large_buffer();
-    let answer = device::connect(opened.state, 0, b"console", &mut out);
-    print_lines(&out, answer.written);
+    let connected = terminal::connect(opened.state, &mut out);
+    print_lines(&out, connected.written);
+    let asked = terminal::ask_info(connected.state, &mut out);
+    print_lines(&out, asked.written);
     let mut buf = io::buffer();
-    serve(answer.state, &mut buf, &mut out);
+    serve(asked.state, &mut buf, &mut out);
 }
 
 fn main() {

@@ -1,5 +1,5 @@
-//! Input lines of the console, ill-formed ones among them. For each line of standard input it prints the line, the number of the call that the
-//! line makes, and what client 0 is sent; the unit is that of `sheet.lgu`.
+//! Input lines of the console, ill-formed ones among them. It begins as the console does. For each line of standard input it prints the line, the
+//! number of the call that the line makes, and what client 0 is sent; the unit is that of `sheet.lgu`.
 use libc::STDIN_FILENO;
 use libc::STDOUT_FILENO;
 use machine::State;
@@ -44,9 +44,11 @@ fn main() {
     let size = io::read_full(fd, &mut sheet);
     let opened = device::open(&sheet[..size]);
     let mut out = io::large_buffer();
-    let answer = device::connect(opened.state, 0, b"console", &mut out);
-    print_lines(&out, answer.written);
+    let connected = terminal::connect(opened.state, &mut out);
+    print_lines(&out, connected.written);
+    let asked = terminal::ask_info(connected.state, &mut out);
+    print_lines(&out, asked.written);
     let mut input = io::large_buffer();
     let n = io::read_full(STDIN_FILENO, &mut input);
-    show_lines(&input[..n], answer.state, &mut out);
+    show_lines(&input[..n], asked.state, &mut out);
 }

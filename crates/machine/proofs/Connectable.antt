@@ -3,30 +3,23 @@ use Prim.Native.Nat.{ℕ}
 use native.Mathlib.Omega.{arith}
 use mathlib.Core.Path.{_≡_, refl}
 use mathlib.Core.Bool.{false}
-use mathlib.Core.List.{List, [], _∷_}
+use mathlib.Core.List.{List}
 use lib.ListN.{length}
 use borrow.Author.Tests.{le-ltb}
-use Rattle.machine.specs.declared.Sheet.{Sheet}
 use Rattle.machine.specs.declared.Opened.{Opened}
-use Rattle.machine.specs.Sheet.{sheetOk}
-use Rattle.machine.specs.Opening.{Taken, broken, taken, accepted, sheetAt, opened}
+use Rattle.machine.specs.Opening.{opened}
 use Rattle.machine.specs.Declined.{clientDeclined, actionDeclined, declined}
 use Rattle.machine.specs.Machine.{outcome}
 use Rattle.machine.specs.TwoDevices.{after, connectedAtEnd}
 use Rattle.machine.specs.Claims.{Connectable}
-use Rattle.machine.proofs.TestLaws.{cond-cases, eqb-refl}
+use Rattle.machine.proofs.TestLaws.{eqb-refl}
+use Rattle.machine.proofs.OpenedRange.{opened-cases}
 use Rattle.machine.proofs.KeptInRange.{kept-in-range}
 use Rattle.machine.proofs.ListLaws.{opened-alone}
 
 -- a sheet that opens gives a device that is not halted
 opened-running : (bytes : List ℕ) → opened bytes .number ≡ 0 → opened bytes .state .halted ≡ false
-unfolding opened
-opened-running bytes = go (sheetAt bytes)
-  where
-    go : (t : Taken Sheet) → accepted t .number ≡ 0 → accepted t .state .halted ≡ false
-    go broken e = absurd (omega arith)
-    go (taken sheet []) e = cond-cases (λ (o : Opened). o .number ≡ 0 → o .state .halted ≡ false) (sheetOk sheet) _ _ (λ _ _. refl) (λ _ q. absurd (omega arith)) e
-    go (taken sheet (b ∷ rest)) e = absurd (omega arith)
+opened-running bytes = opened-cases (λ (o : Opened). o .number ≡ 0 → o .state .halted ≡ false) bytes (λ _ _ _. refl) (λ e. absurd (omega arith))
 
 pub connectable : Connectable
 unfolding after connectedAtEnd outcome declined actionDeclined clientDeclined

@@ -47,4 +47,5 @@ pub mod SettledLaws
 pub mod ArchiveLaws
 pub mod TwoDevices
 pub mod Connectable
+pub mod StartsAtWarn
 pub mod Edges

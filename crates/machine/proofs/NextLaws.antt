@@ -30,7 +30,7 @@ pub answer-next : (P : Request → State → Type 0) (s : State) (c : ℕ) (m : 
     → (r : Request) → P r (answer (s .sheet) s c r m .next)
 unfolding answer sampling
 answer-next P s c m kept levelled halted restarted queried set ClientList = kept ClientList refl
-answer-next P s c m kept levelled halted restarted queried set Halt = halted true (s .level)
+answer-next P s c m kept levelled halted restarted queried set Halt = halted true _
 answer-next P s c m kept levelled halted restarted queried set Help = kept Help refl
 answer-next P s c m kept levelled halted restarted queried set LogLevel = levelled _
 answer-next P s c m kept levelled halted restarted queried set Restart = restarted false _

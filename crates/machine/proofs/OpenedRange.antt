@@ -14,7 +14,7 @@ use Rattle.machine.specs.Places.{allBelow}
 use Rattle.machine.specs.Sheet.{sensorOf, textOk, choiceNone, limitsNone, sensorNone, distinct, sensorsOk, titlesNone, titlesOk, sheetOk}
 use Rattle.machine.specs.State.{noStored, noSubscription, noClient, connected, blankClient, blankSheet, freshReadings, fresh, blank}
 use Rattle.machine.specs.Range.{sampleOk, storedOk, storedNone, storedOkAt, clientOk, pairOkAt, noClients, isBlank}
-use Rattle.machine.specs.Opening.{Taken, broken, taken, sheetAt, accepted, opened}
+use Rattle.machine.specs.Opening.{Taken, broken, taken, sheetAt, refused, accepted, opened}
 use Rattle.machine.proofs.TestLaws.{and-true, and-in, or-in, cond-cases}
 use Rattle.machine.proofs.PlacesLaws.{below-at, getD-tabulate, getD-replicate-same, replicate-either}
 use Rattle.machine.proofs.RangeLaws.{InRange}
@@ -81,15 +81,19 @@ module _ (sheet : Sheet) where
     pair-in = λ p h. no-pair-in sheet 0 (connected (fresh sheet) (p / 32)) p;
   }
 
+-- a sheet opens with a fresh state, or is refused
+pub opened-cases : (P : Opened → Type 0) (bytes : List ℕ) → ((sheet : Sheet) → sheetOk sheet ≡ true → P (record { number = 0; state = fresh sheet })) → P refused → P (opened bytes)
+unfolding opened
+opened-cases P bytes opens fails = go (sheetAt bytes)
+  where
+    go : (t : Taken Sheet) → P (accepted t)
+    go broken = fails
+    go (taken sheet []) = cond-cases P (sheetOk sheet) _ _ (opens sheet) (λ e. fails)
+    go (taken sheet (b ∷ rest)) = fails
+
 -- an opened state is a fresh one or the blank one
 pub opened-either : (P : State → Type 0) (bytes : List ℕ) → ((sheet : Sheet) → sheetOk sheet ≡ true → P (fresh sheet)) → P blank → P (opened bytes .state)
-unfolding opened
-opened-either P bytes new old = go (sheetAt bytes)
-  where
-    go : (t : Taken Sheet) → P (accepted t .state)
-    go broken = old
-    go (taken sheet []) = cond-cases (λ (o : Opened). P (o .state)) (sheetOk sheet) _ _ (new sheet) (λ e. old)
-    go (taken sheet (b ∷ rest)) = old
+opened-either P bytes new old = opened-cases (λ (o : Opened). P (o .state)) bytes new old
 
 pub opened-range : (bytes : List ℕ) → InRange (opened bytes .state)
 opened-range bytes = opened-either InRange bytes fresh-range blank-range

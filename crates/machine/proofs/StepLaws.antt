@@ -8,7 +8,7 @@ use mathlib.Core.List.{List, []}
 use mathlib.Core.Option.{Option, none, some}
 use lib.Dec.{eqb, ltb}
 use lib.ListN.{length}
-use borrow.Author.Tests.{ltb-false, eqb-true, not-false}
+use borrow.Author.Tests.{ltb-false, le-ltb, eqb-true, not-false}
 use Rattle.output.specs.Text.{text, same}
 use Rattle.output.proofs.TextLaws.{same-true}
 use Rattle.message.specs.Message.{Message}
@@ -52,6 +52,15 @@ accepted s call e =
     let b = passed (ltb (length (call .lent)) 65536) 2 _ (omega arith) (a .1) in
     let c = passed (s .halted) 3 (actionDeclined (s .sheet) s (call .action)) (omega arith) (b .1) in
     record { in-range = not-false (inRange s) (a .0); room = ltb-false (length (call .lent)) 65536 (b .0); running = c .0; fits = c .1 }
+
+-- the other way: such a call is carried out
+passes : (s : State) (call : Call) → Accepted s call → declined (s .sheet) s call ≡ 0
+unfolding declined
+passes s call a = rw (a .fits, a .in-range, le-ltb (length (call .lent)) 65536 (a .room), a .running)
+
+pub carried-out : (s : State) (call : Call) → Accepted s call → step s call ≡ done (perform (s .sheet) s (call .action))
+unfolding outcome
+carried-out s call a = rw (passes s call a)
 
 -- a call that is declined with a number above 1: the state is in range too
 pub declined-in-range : (s : State) (call : Call) (n : ℕ) → declined (s .sheet) s call ≡ suc n → 1 ≤ n → inRange s ≡ true

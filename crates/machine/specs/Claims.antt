@@ -1,18 +1,23 @@
 -- What is claimed of the machine beside demand 3.
 use Prim.Native.Nat.{ℕ, _≤_, _<_}
 use mathlib.Core.Path.{_≡_}
-use mathlib.Core.Bool.{true}
+use mathlib.Core.Bool.{true, cond}
 use mathlib.Core.List.{List, [], _∷_}
+use lib.Dec.{eqb}
 use lib.ListN.{length}
-use Rattle.message.specs.Message.{write}
+use Rattle.output.specs.Text.{text}
+use Rattle.message.specs.Message.{Message, write}
 use Rattle.message.specs.Delivery.{Delivery}
 use Rattle.line.specs.Line.{message, parse, WellFormed}
 use Rattle.machine.specs.declared.State.{State}
+use Rattle.machine.specs.declared.Request.the-variants.{Halt, Restart}
 use Rattle.machine.specs.Places.{Each}
 use Rattle.machine.specs.State.{blank}
 use Rattle.machine.specs.Range.{inRange}
 use Rattle.machine.specs.Opening.{opened}
-use Rattle.machine.specs.Declined.{Connect, Call, callOf, addressFits}
+use Rattle.machine.specs.Messages.{levelText}
+use Rattle.machine.specs.Requests.{Asks, asked}
+use Rattle.machine.specs.Declined.{Connect, Line, Call, callOf, addressFits}
 use Rattle.machine.specs.Machine.{step, written}
 use Rattle.machine.specs.Reader.{Impossible, news, viewBy, noView, standing}
 use Rattle.machine.specs.TwoDevices.{returned, connectedAtEnd, Device, sheetOf, archiveConnected, messages, final}
@@ -52,3 +57,12 @@ pub record KeptInRange : Type 0 where
 abbrev pub Connectable : Type 0
 Connectable = (bytes : List ℕ) → opened bytes .number ≡ 0 → (c : ℕ) → c < 8 → (address : List ℕ) → addressFits address ≡ true → (lent : List ℕ) → 65536 ≤ length lent
     → connectedAtEnd bytes c (callOf (Connect c address) lent ∷ []) ≡ true
+
+-- document 02, (e): "A fresh device and a restarted one start at warn.", on every sheet that opens and after every restart that is carried out. A sheet
+-- that does not open gives "level off" as before, and a halt, carried out or declined, keeps the level
+pub record StartsAtWarn : Type 0 where
+  pub opened-level : (bytes : List ℕ) → levelText (opened bytes .state .level) ≡ cond (eqb (opened bytes .number) 0) (text "warn") (text "off")
+  pub restarted-level : (s : State) (c : ℕ) (line lent : List ℕ) (m : Message) → asked line ≡ Asks Restart m → step s (callOf (Line c line) lent) .number ≡ 0
+      → levelText (step s (callOf (Line c line) lent) .next .level) ≡ text "warn"
+  pub halted-level : (s : State) (c : ℕ) (line lent : List ℕ) (m : Message) → asked line ≡ Asks Halt m
+      → step s (callOf (Line c line) lent) .next .level ≡ s .level

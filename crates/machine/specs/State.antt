@@ -102,9 +102,9 @@ withReading s j x = withReadings s (tabulate (λ i. cond (eqb i j) (record { sam
 
 -- Opening.
 
--- the log level of a fresh device and of a restarted one: "log level (info)"
+-- the log level of a fresh device and of a restarted one, info in document 01: document 02, (e), "A fresh device and a restarted one start at warn."
 abbrev pub startLevel : ℕ
-startLevel = 4
+startLevel = 3
 
 -- "A fresh sensor is unknown at time 0": the reading at a place, where a sensor of that type is there
 abbrev pub freshStored : Bool → ℕ → Stored
@@ -114,7 +114,7 @@ freshStored there t = cond there (record { sample = freshSample t; time = 0 }) n
 unfoldable pub freshReadings : Sheet → List Stored
 freshReadings sheet = tabulate (λ j. freshStored (ltb j (sheet .count)) (sensorOf sheet j .kind)) 32
 
--- the state that opening a sheet returns: "clock (0), halted flag (clear), log level (info)", readings, and "unconnected (all at first)"
+-- the state that opening a sheet returns: "clock (0), halted flag (clear), log level", see above, readings, and "unconnected (all at first)"
 abbrev pub fresh : Sheet → State
 fresh sheet = record { sheet = sheet; clock = 0; halted = false; level = startLevel; readings = freshReadings sheet; clients = replicate 8 blankClient; subscriptions = replicate 256 noSubscription }
 

@@ -112,11 +112,11 @@ pub enum Cause {
     Reading(usize),
 }
 
-// The log level of a fresh device and of a restarted one.
+// The log level of a fresh device and of a restarted one: warn.
 pub fn start_level() -> u8
     ensures { λ r. ⌜ r ≡ startLevel ⌝ }
 {
-    4
+    3
 }
 
 // What every client and sensor start with: no strategy and no report.

@@ -1,2 +1,3 @@
 pub mod EntryLaws
 pub mod ShownLaws
+pub mod Begins

@@ -1,5 +1,5 @@
-//! The console's part that can be proved: what an input line asks, the call that it makes, and the lines that a client is shown of a call's
-//! output.
+//! The console's part that can be proved: the calls that it makes before it reads a line, what an input line asks, the call that this makes, and
+//! the lines that a client is shown of a call's output.
 use input::Integer;
 use input::Number;
 use machine::Answer;
@@ -17,6 +17,7 @@ ghost use Rattle.machine.specs.Machine.{step, answerOf, outputOf};
 ghost use Rattle.input.specs.Words.{wordAt, integerOf};
 ghost use Rattle.terminal.specs.Entry as entries;
 ghost use Rattle.terminal.specs.Shown as shown;
+ghost use Rattle.terminal.specs.Start as start;
 
 // What an input line is: a tick, a sensor's reading, or a line for the server.
 pub enum Entry {
@@ -113,6 +114,22 @@ pub fn perform(state: State, line: &[u8], out: &mut [u8]) -> Answer
         Entry::Reading(sensor, reading) => device::reading(state, sensor, reading, out),
         Entry::Line => device::line(state, 0, line, out),
     }
+}
+
+// Client 0 is connected, as `console`.
+pub fn connect(state: State, out: &mut [u8]) -> Answer
+    ensures { λ r. ⌜ r ≡ answerOf (step state (calls.callOf start.connecting (now (out .entry)))) ⌝ }
+    ensures { λ r. ⌜ now (out .exit) ≡ outputOf (step state (calls.callOf start.connecting (now (out .entry)))) (now (out .entry)) ⌝ }
+{
+    device::connect(state, 0, b"console", out)
+}
+
+// What the console sends after connecting, since a device starts at warn.
+pub fn ask_info(state: State, out: &mut [u8]) -> Answer
+    ensures { λ r. ⌜ r ≡ answerOf (step state (calls.callOf start.asking (now (out .entry)))) ⌝ }
+    ensures { λ r. ⌜ now (out .exit) ≡ outputOf (step state (calls.callOf start.asking (now (out .entry)))) (now (out .entry)) ⌝ }
+{
+    perform(state, b"?log-level info", out)
 }
 
 // Where a line of a delivery ends that starts at `at`, with a length of two bytes, in an output of `len` bytes.

@@ -1,0 +1,96 @@
+-- What the console has printed before it reads a line.
+use Prim.Native.Nat.{ℕ, _≤_}
+use Prim.Native.Char.{code}
+use native.Mathlib.Omega.{arith}
+use mathlib.Core.Path.{_≡_, refl, subst, _∙_}
+use mathlib.Core.Bool.{true}
+use mathlib.Core.List.{List, [], _∷_}
+use lib.ListN.{length}
+use Rattle.output.specs.Text.{text, isDigit}
+use Rattle.message.specs.Message.{Message, message, escapeByte, escape, arg, idText, writeTo}
+use Rattle.message.specs.Delivery.{to}
+use Rattle.line.specs.Line.{blank, letter, nameByte, kindByte, plain, escapeOf, parse, blankLine}
+use Rattle.machine.specs.declared.Sheet.{Sheet}
+use Rattle.machine.specs.declared.State.{State}
+use Rattle.machine.specs.declared.Opened.{Opened}
+use Rattle.machine.specs.Places.{tabulate, gather, firstBelow}
+use Rattle.machine.specs.Sheet.{sheetOk, graphic, textFits}
+use Rattle.machine.specs.State.{fresh, withLevel, withClient, clientAt}
+use Rattle.machine.specs.Range.{inRange}
+use Rattle.machine.specs.Messages.{versionConnect, protocolArgs, deviceArgs, levelText, toWhere}
+use Rattle.machine.specs.Requests.{requestNamed, levelOf, asked, answer}
+use Rattle.machine.specs.Declined.{callOf, addressFits, countFits, argumentsDeclined, lineDeclined, clientDeclined, actionDeclined}
+use Rattle.machine.specs.Machine.{Effect, connectSends, lineWork, perform, done, step}
+use Rattle.machine.specs.TwoDevices.{after, sentTo, messagesOf}
+use Rattle.machine.proofs.RangeLaws.{range-of}
+use Rattle.machine.proofs.StepLaws.{carried-out}
+use Rattle.machine.proofs.KeptInRange.{kept-in-range}
+use Rattle.machine.proofs.OpenedRange.{fresh-range, opened-cases}
+use Rattle.machine.proofs.ArchiveLaws.{lines-are}
+use Rattle.input.specs.Words.{wordAt, hasWords}
+use Rattle.terminal.specs.Entry.{entryOf, actionBy}
+use Rattle.terminal.specs.Start.{connecting, asking, firstCalls, Begins}
+
+-- the reply
+abbrev answered : Message
+answered = message (code "!") (text "log-level") 0 (text "ok" ∷ text "info" ∷ [])
+
+module _ (lent next : List ℕ) where
+  -- what the calls come to on a state
+  record Facts (s : State) : Type 0 where
+    pub connects : step s (callOf connecting lent) .number ≡ 0
+    pub versions : sentTo 0 (step s (callOf connecting lent) .sent) ≡ versionConnect protocolArgs ∷ versionConnect (deviceArgs (s .sheet)) ∷ []
+    pub asks : step (step s (callOf connecting lent) .next) (callOf asking next) .number ≡ 0
+    pub reply : sentTo 0 (step (step s (callOf connecting lent) .next) (callOf asking next) .sent) ≡ answered ∷ []
+    pub level : step (step s (callOf connecting lent) .next) (callOf asking next) .next .level ≡ 4
+
+  module _ (room : 65536 ≤ length lent) (more : 65536 ≤ length next) (sheet : Sheet) (ok : sheetOk sheet ≡ true) where
+    -- client 0 is connected
+    abbrev there : State
+    there = withClient (fresh sheet) 0 (clientAt (text "console"))
+
+    fresh-in-range : inRange (fresh sheet) ≡ true
+    fresh-in-range = range-of (fresh sheet) (fresh-range sheet ok)
+
+    first : step (fresh sheet) (callOf connecting lent) ≡ done (perform sheet (fresh sheet) connecting)
+    unfolding actionDeclined clientDeclined addressFits textFits graphic
+    first = carried-out (fresh sheet) (callOf connecting lent) (record { in-range = fresh-in-range; room = room; running = refl; fits = refl })
+
+    there-in-range : inRange there ≡ true
+    unfolding perform
+    there-in-range = subst (λ (e : Effect). inRange (e .next) ≡ true) first (kept-in-range .step-in-range (fresh sheet) fresh-in-range (callOf connecting lent))
+
+    asking-fits : actionDeclined sheet there asking ≡ 0
+    unfolding withClient tabulate firstBelow actionBy entryOf hasWords wordAt actionDeclined clientDeclined lineDeclined countFits argumentsDeclined levelOf levelText asked requestNamed isDigit blank letter nameByte kindByte plain escapeOf parse blankLine
+    asking-fits = refl
+
+    second : step there (callOf asking next) ≡ done (perform sheet there asking)
+    unfolding withClient
+    second = carried-out there (callOf asking next) (record { in-range = there-in-range; room = more; running = refl; fits = asking-fits })
+
+    heard : sentTo 0 (perform sheet (fresh sheet) connecting .sent) ≡ versionConnect protocolArgs ∷ versionConnect (deviceArgs sheet) ∷ []
+    unfolding perform connectSends sentTo toWhere gather
+    heard = refl
+
+    done-so : perform sheet there asking ≡ record { sent = to 0 answered ∷ []; next = withLevel there 4 }
+    unfolding firstBelow actionBy entryOf hasWords wordAt perform lineWork answer levelOf levelText asked requestNamed isDigit blank letter nameByte kindByte plain escapeOf parse blankLine
+    done-so = refl
+
+    facts : Facts (fresh sheet)
+    unfolding perform sentTo
+    facts = record {
+      connects = rw first;
+      versions = rw first heard;
+      asks = rw (first, second);
+      reply = rw (first, second, done-so);
+      level = rw (first, second, done-so);
+    }
+
+pub begins : Begins
+unfolding after messagesOf actionBy entryOf hasWords wordAt levelText arg escape escapeByte idText writeTo
+begins bytes lent next e room more =
+    let f = opened-cases (λ (o : Opened). o .number ≡ 0 → Facts lent next (o .state)) bytes (λ sheet ok _. facts lent next room more sheet ok) (λ q. absurd (omega arith)) e in
+    record {
+      three-lines = lines-are bytes 0 (firstCalls lent next) ∙ rw (f .connects, f .versions, f .asks, f .reply);
+      at-info = rw (f .level);
+    }

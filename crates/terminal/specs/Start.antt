@@ -1,0 +1,38 @@
+-- What the console does before it reads a line, and what it has printed then.
+use Prim.Native.Nat.{ℕ, _≤_}
+use mathlib.Core.Path.{_≡_}
+use mathlib.Core.List.{List, [], _∷_, _++_}
+use lib.ListN.{length}
+use Rattle.output.specs.Text.{text}
+use Rattle.message.specs.Message.{line}
+use Rattle.machine.specs.Opening.{opened}
+use Rattle.machine.specs.Messages.{versionConnect, deviceArgs, levelText}
+use Rattle.machine.specs.Declined.{Action, Connect, Call, callOf}
+use Rattle.machine.specs.TwoDevices.{after, sheetOf, linesOf}
+use Rattle.terminal.specs.Entry.{actionOf}
+
+-- document 01: "connects client 0 as `console`"
+abbrev pub connecting : Action
+connecting = Connect 0 (text "console")
+
+-- document 02, (e): "The console relied on info, so it sends `?log-level info` after connecting", as it sends an input line
+abbrev pub asking : Action
+asking = actionOf (text "?log-level info")
+
+-- these two calls, each lent an output, the latest first
+abbrev pub firstCalls : List ℕ → List ℕ → List Call
+firstCalls lent next = callOf asking next ∷ callOf connecting lent ∷ []
+
+-- a text with its byte 10
+abbrev pub ended : List ℕ → List ℕ
+ended t = t ++ (10 ∷ [])
+
+-- what client 0 has been sent after some calls, and the log level: "the printed session gains `!log-level ok info` as its third line"
+pub record Begun (bytes : List ℕ) (h : List Call) : Type 0 where
+  pub three-lines : linesOf bytes 0 h
+      ≡ ended (text "#version-connect katcp-protocol 5.1-MIB") ∷ line (versionConnect (deviceArgs (sheetOf bytes))) ∷ ended (text "!log-level ok info") ∷ []
+  pub at-info : levelText (after bytes h .level) ≡ text "info"
+
+-- so the console begins, on every sheet that opens
+abbrev pub Begins : Type 0
+Begins = (bytes lent next : List ℕ) → opened bytes .number ≡ 0 → 65536 ≤ length lent → 65536 ≤ length next → Begun bytes (firstCalls lent next)
