@@ -1,4 +1,4 @@
--- What the console has printed before it reads a line.
+-- What the calls with which the console begins send client 0.
 use Prim.Native.Nat.{ℕ, _≤_}
 use Prim.Native.Char.{code}
 use native.Mathlib.Omega.{arith}
@@ -45,45 +45,45 @@ module _ (lent next : List ℕ) where
     pub level : step (step s (callOf connecting lent) .next) (callOf asking next) .next .level ≡ 4
 
   module _ (room : 65536 ≤ length lent) (more : 65536 ≤ length next) (sheet : Sheet) (ok : sheetOk sheet ≡ true) where
-    -- client 0 is connected
-    abbrev there : State
-    there = withClient (fresh sheet) 0 (clientAt (text "console"))
+    -- the state with client 0 connected
+    abbrev with-console : State
+    with-console = withClient (fresh sheet) 0 (clientAt (text "console"))
 
     fresh-in-range : inRange (fresh sheet) ≡ true
     fresh-in-range = range-of (fresh sheet) (fresh-range sheet ok)
 
-    first : step (fresh sheet) (callOf connecting lent) ≡ done (perform sheet (fresh sheet) connecting)
+    connect-done : step (fresh sheet) (callOf connecting lent) ≡ done (perform sheet (fresh sheet) connecting)
     unfolding actionDeclined clientDeclined addressFits textFits graphic
-    first = carried-out (fresh sheet) (callOf connecting lent) (record { in-range = fresh-in-range; room = room; running = refl; fits = refl })
+    connect-done = carried-out (fresh sheet) (callOf connecting lent) (record { in-range = fresh-in-range; room = room; running = refl; fits = refl })
 
-    there-in-range : inRange there ≡ true
+    with-console-in-range : inRange with-console ≡ true
     unfolding perform
-    there-in-range = subst (λ (e : Effect). inRange (e .next) ≡ true) first (kept-in-range .step-in-range (fresh sheet) fresh-in-range (callOf connecting lent))
+    with-console-in-range = subst (λ (e : Effect). inRange (e .next) ≡ true) connect-done (kept-in-range .step-in-range (fresh sheet) fresh-in-range (callOf connecting lent))
 
-    asking-fits : actionDeclined sheet there asking ≡ 0
+    asking-fits : actionDeclined sheet with-console asking ≡ 0
     unfolding withClient tabulate firstBelow actionBy entryOf hasWords wordAt actionDeclined clientDeclined lineDeclined countFits argumentsDeclined levelOf levelText asked requestNamed isDigit blank letter nameByte kindByte plain escapeOf parse blankLine
     asking-fits = refl
 
-    second : step there (callOf asking next) ≡ done (perform sheet there asking)
+    asking-done : step with-console (callOf asking next) ≡ done (perform sheet with-console asking)
     unfolding withClient
-    second = carried-out there (callOf asking next) (record { in-range = there-in-range; room = more; running = refl; fits = asking-fits })
+    asking-done = carried-out with-console (callOf asking next) (record { in-range = with-console-in-range; room = more; running = refl; fits = asking-fits })
 
     heard : sentTo 0 (perform sheet (fresh sheet) connecting .sent) ≡ versionConnect protocolArgs ∷ versionConnect (deviceArgs sheet) ∷ []
     unfolding perform connectSends sentTo toWhere gather
     heard = refl
 
-    done-so : perform sheet there asking ≡ record { sent = to 0 answered ∷ []; next = withLevel there 4 }
+    level-set : perform sheet with-console asking ≡ record { sent = to 0 answered ∷ []; next = withLevel with-console 4 }
     unfolding firstBelow actionBy entryOf hasWords wordAt perform lineWork answer levelOf levelText asked requestNamed isDigit blank letter nameByte kindByte plain escapeOf parse blankLine
-    done-so = refl
+    level-set = refl
 
     facts : Facts (fresh sheet)
     unfolding perform sentTo
     facts = record {
-      connects = rw first;
-      versions = rw first heard;
-      asks = rw (first, second);
-      reply = rw (first, second, done-so);
-      level = rw (first, second, done-so);
+      connects = rw connect-done;
+      versions = rw connect-done heard;
+      asks = rw (connect-done, asking-done);
+      reply = rw (connect-done, asking-done, level-set);
+      level = rw (connect-done, asking-done, level-set);
     }
 
 pub begins : Begins

@@ -1,4 +1,4 @@
--- What the console does before it reads a line, and what it has printed then.
+-- The calls with which the console begins, and what they send client 0. That the program makes them and prints those lines is not said here.
 use Prim.Native.Nat.{ℕ, _≤_}
 use mathlib.Core.Path.{_≡_}
 use mathlib.Core.List.{List, [], _∷_, _++_}
@@ -33,6 +33,6 @@ pub record Begun (bytes : List ℕ) (h : List Call) : Type 0 where
       ≡ ended (text "#version-connect katcp-protocol 5.1-MIB") ∷ line (versionConnect (deviceArgs (sheetOf bytes))) ∷ ended (text "!log-level ok info") ∷ []
   pub at-info : levelText (after bytes h .level) ≡ text "info"
 
--- so the console begins, on every sheet that opens
+-- so it stands after the two calls, on every sheet that opens
 abbrev pub Begins : Type 0
 Begins = (bytes lent next : List ℕ) → opened bytes .number ≡ 0 → 65536 ≤ length lent → 65536 ≤ length next → Begun bytes (firstCalls lent next)
