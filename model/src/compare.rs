@@ -51,6 +51,7 @@ fn counted_answer(session: &mut Session, call: &Call, tally: &mut Tally) -> Vec<
     tally.count(call, number, request.as_ref().filter(|_| reached));
     if let (0, Some(request)) = (number, &request) {
         tally.count_settings(&session.device, request);
+        tally.count_names(request);
     }
     format!("{} {}", number, crate::script::hex(&session.out)).into_bytes()
 }

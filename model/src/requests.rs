@@ -191,12 +191,14 @@ impl Device {
         Ok(())
     }
 
-    /// "[name]": the places of all sensors in sheet order, or of the one named;
-    /// "sensor name unknown | 16".
+    /// "[name]": the places of all sensors in sheet order; "`sensor-value` and
+    /// `sensor-list` take a comma list as `sensor-sampling` does. Informs follow
+    /// the list's order [...]. If one name is unknown or stands twice, no inform
+    /// is sent and 16 or 21 answers, with 16 first." (document 02, (a))
     fn wanted_sensors(&self, asked: &Asked) -> Result<Vec<usize>, Refusal> {
         match asked.optional_argument()? {
             None => Ok((0..self.sheet.sensors.len()).collect()),
-            Some(name) => Ok(vec![self.sheet.place(name).ok_or(UNKNOWN_SENSOR)?]),
+            Some(names) => self.named_sensors(names),
         }
     }
 

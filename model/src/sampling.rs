@@ -46,7 +46,7 @@ impl Device {
     }
 
     /// "comma list"; "sensor name unknown | 16", then "name twice | 21".
-    fn named_sensors(&self, names: &[u8]) -> Result<Vec<usize>, Refusal> {
+    pub(crate) fn named_sensors(&self, names: &[u8]) -> Result<Vec<usize>, Refusal> {
         let mut places = Vec::new();
         for name in names.split(|&byte| byte == b',') {
             places.push(self.sheet.place(name).ok_or(UNKNOWN_SENSOR)?);

@@ -44,6 +44,8 @@ pub struct Tally {
     pub calls: BTreeMap<&'static str, u64>,
     pub requests: BTreeMap<(String, u8), u64>,
     pub settings: [[u64; 5]; 7],
+    /// Lists of `sensor-list` and `sensor-value` that were answered, by the count of their names.
+    pub lists: BTreeMap<usize, u64>,
     pub visits: Visits,
 }
 
@@ -72,6 +74,13 @@ impl Tally {
         }
     }
 
+    /// Counts the names of a `sensor-list` or `sensor-value` that was answered `ok`.
+    pub fn count_names(&mut self, message: &Message) {
+        if let (b"sensor-list" | b"sensor-value", [names]) = (&message.name[..], &message.arguments[..]) {
+            *self.lists.entry(names.split(|&byte| byte == b',').count()).or_default() += 1;
+        }
+    }
+
     /// Adds the visits of a session that has ended.
     pub fn add_visits(&mut self, session: &Session) {
         let from = &session.device.visits;
@@ -95,6 +104,7 @@ impl Tally {
         self.write_settings(&mut text);
         self.write_statuses(&mut text);
         self.write_requests(&mut text);
+        self.write_lists(&mut text);
         text
     }
 
@@ -151,6 +161,14 @@ impl Tally {
         table(text, &["request", "number", "times"]);
         for ((name, number), times) in &self.requests {
             row(text, &[name.clone(), number.to_string(), times.to_string()]);
+        }
+    }
+
+    /// Lists of names that were answered.
+    fn write_lists(&self, text: &mut String) {
+        table(text, &["names in one query", "times"]);
+        for (names, times) in &self.lists {
+            row(text, &[names.to_string(), times.to_string()]);
         }
     }
 }

@@ -14,6 +14,7 @@ const BY_HAND: &[(&str, &str)] = &[
     ("values", include_str!("../vectors/values.txt")),
     ("machine", include_str!("../vectors/machine.txt")),
     ("levels", include_str!("../vectors/levels.txt")),
+    ("names", include_str!("../vectors/names.txt")),
     ("sampling", include_str!("../vectors/sampling.txt")),
     ("guideline", include_str!("../vectors/guideline.txt")),
     ("script", include_str!("../vectors/script.txt")),

@@ -48,4 +48,5 @@ pub mod ArchiveLaws
 pub mod TwoDevices
 pub mod Connectable
 pub mod StartsAtWarn
+pub mod SeveralNames
 pub mod Edges

@@ -2,7 +2,7 @@
 use Prim.Native.Nat.{ℕ, _+_, _≤_}
 use native.Mathlib.Omega.{arith}
 use mathlib.Core.Path.{_≡_, refl, ap, sym, _∙_}
-use mathlib.Core.Bool.{true, not, _&&_, _||_}
+use mathlib.Core.Bool.{true, cond, not, _&&_, _||_}
 use mathlib.Core.Option.{Option, none, some}
 use lib.Dec.{eqb, leb, ltb}
 use lib.ListN.{length, drop}
@@ -48,9 +48,9 @@ arguments-row sheet Halt m = refl
 arguments-row sheet Help m = cond-either OfRequest (eqb (length (m .args)) 0) 0 (helpDeclined (requestNamed (argument m 0))) refl (help-row (requestNamed (argument m 0)))
 arguments-row sheet LogLevel m = cond-either OfRequest (eqb (length (m .args)) 0) 0 _ refl (cond-either OfRequest (leb 8 (levelOf (argument m 0))) 22 0 refl refl)
 arguments-row sheet Restart m = refl
-arguments-row sheet SensorList m = cond-either OfRequest (any (notOnSheet sheet) (askedPlaces sheet m)) 16 0 refl refl
+arguments-row sheet SensorList m = cond-either OfRequest (any (notOnSheet sheet) (askedPlaces sheet m)) 16 (cond (twice (askedPlaces sheet m)) 21 0) refl (cond-either OfRequest (twice (askedPlaces sheet m)) 21 0 refl refl)
 arguments-row sheet SensorSampling m = sampling-row sheet m
-arguments-row sheet SensorValue m = cond-either OfRequest (any (notOnSheet sheet) (askedPlaces sheet m)) 16 0 refl refl
+arguments-row sheet SensorValue m = cond-either OfRequest (any (notOnSheet sheet) (askedPlaces sheet m)) 16 (cond (twice (askedPlaces sheet m)) 21 0) refl (cond-either OfRequest (twice (askedPlaces sheet m)) 21 0 refl refl)
 arguments-row sheet VersionList m = refl
 arguments-row sheet Watchdog m = refl
 

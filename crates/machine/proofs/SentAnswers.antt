@@ -20,15 +20,16 @@ use Rattle.machine.specs.declared.Strategy.{Strategy}
 use Rattle.machine.specs.declared.Request.{Request}
 use Rattle.machine.specs.declared.Request.the-variants.{ClientList, Halt, Help, LogLevel, Restart, SensorList, SensorSampling, SensorValue, VersionList, Watchdog}
 use Rattle.machine.specs.Places.{oneIf, any, twice, Each}
-use Rattle.machine.specs.Sheet.{sensorOf, placeOf, notOnSheet, graphic, textOk, titlesOk, titlesNone, apiOf, buildOf}
+use Rattle.machine.specs.Sheet.{sensorOf, notOnSheet, graphic, textOk, titlesOk, titlesNone, apiOf, buildOf}
 use Rattle.machine.specs.State.{clientOf, connected, addressOf, pairOf, present}
 use Rattle.machine.specs.Range.{clientOk, isNone, isBlank}
 use Rattle.machine.specs.Messages
 use Rattle.machine.specs.Report.{Work}
-use Rattle.machine.specs.Requests.{Row, requests, requestIn, requestNamed, argument, allPlaces, askedPlaces, helpNames, listed, firstOf, strategyAsked, levelAsked, sampledSends, addresses, sampling, answer}
+use Rattle.machine.specs.Requests.{Row, requests, requestIn, requestNamed, argument, askedPlaces, helpNames, listed, firstOf, strategyAsked, levelAsked, sampledSends, addresses, sampling, answer}
 use Rattle.machine.specs.Declined.{sensorsDeclined, helpDeclined, samplingDeclined, argumentsDeclined}
 use Rattle.machine.proofs.TestLaws.{and-true, or-true, cond-true, cond-cases, passed}
-use Rattle.machine.proofs.PlacesLaws.{length-tabulate, each-gather, each-one, each-weaker, each-any-false, each-map, gather-length}
+use Rattle.machine.proofs.PlacesLaws.{each-gather, each-one, each-weaker, each-any-false, each-map, gather-length}
+use Rattle.machine.proofs.CountLaws.{few-distinct}
 use Rattle.machine.proofs.SheetLaws.{text-out, Sensors, places-below}
 use Rattle.machine.proofs.RangeLaws.{InRange, stored-is, sensors-of}
 use Rattle.machine.proofs.SamplingLaws.{listed-known, listed-below, setting-suits, first-listed}
@@ -106,15 +107,11 @@ helped-short sheet m h = go (eqb (length (m .args)) 0) h
 
 -- the sensors that are told of
 places-short : (sheet : Sheet) → Sensors sheet → (m : Message) → sensorsDeclined sheet m ≡ 0 → (length (askedPlaces sheet m) ≤ 32) × Each (λ j. j < sheet .count) (askedPlaces sheet m)
-unfolding askedPlaces
-places-short sheet r m h = (
-  go (eqb (length (m .args)) 0),
-  places-below sheet (askedPlaces sheet m) (passed (any (notOnSheet sheet) (askedPlaces sheet m)) 16 0 (omega arith) h .0),
-)
-  where
-    go : (b : Bool) → length (cond b (allPlaces sheet) (placeOf sheet (argument m 0) ∷ [])) ≤ 32
-    go true = omega (arith, length-tabulate (λ j. j) (sheet .count), r .count-most)
-    go false = omega arith
+places-short sheet r m h =
+    let js = askedPlaces sheet m in
+    let a = passed (any (notOnSheet sheet) js) 16 (cond (twice js) 21 0) (omega arith) h in
+    let below = places-below sheet js (a .0) in
+    (few-distinct 32 js (each-weaker (λ j. j < sheet .count) (λ j. j < 32) (λ j k. omega (arith, r .count-most)) js below) (passed (twice js) 21 0 (omega arith) (a .1) .0), below)
 
 module _ (s : State) (g : InRange s) (c : ℕ) (hc : c < 8) (m : Message) (r : Head m) where
   ending-sent : (why : List ℕ) → length why ≤ 32 → Sendable (to c (Messages.okReply m []) ∷ Messages.toAll s (Messages.disconnect why))

@@ -77,9 +77,14 @@ countFits SensorValue n = leb n 1
 countFits VersionList n = eqb n 0
 countFits Watchdog n = eqb n 0
 
--- some sensor that is told of is not on the sheet: "sensor name unknown", 16
+-- a list of names, by the places of their sensors: "If one name is unknown or stands twice, .. 16 or 21 answers, with 16 first" (document 02, (a)); then
+-- the rows behind these two
+abbrev pub placesDeclined : Sheet → List ℕ → ℕ → ℕ
+placesDeclined sheet js rest = cond (any (notOnSheet sheet) js) 16 (cond (twice js) 21 rest)
+
+-- `sensor-list` and `sensor-value`: no row behind these
 abbrev pub sensorsDeclined : Sheet → Message → ℕ
-sensorsDeclined sheet m = cond (any (notOnSheet sheet) (askedPlaces sheet m)) 16 0
+sensorsDeclined sheet m = placesDeclined sheet (askedPlaces sheet m) 0
 
 -- "help on unknown name", 23
 abbrev pub helpDeclined : Option Request → ℕ
@@ -99,10 +104,9 @@ settingDeclined sheet js k n ts =
 -- "this order for sampling: 15 (none), 16, 21, 15 (list without strategy), .." (the first of these is that of every request)
 unfoldable pub samplingDeclined : Sheet → Message → ℕ
 samplingDeclined sheet m =
-    cond (any (notOnSheet sheet) (listed sheet m)) 16
-    (cond (twice (listed sheet m)) 21
+    placesDeclined sheet (listed sheet m)
     (cond (eqb (length (m .args)) 1) (cond (ltb 1 (length (listed sheet m))) 15 0)
-    (settingDeclined sheet (listed sheet m) (kindAsked m) (length (m .args)) (drop 2 (m .args)))))
+    (settingDeclined sheet (listed sheet m) (kindAsked m) (length (m .args)) (drop 2 (m .args))))
 
 -- what a request's arguments are declined for
 unfoldable pub argumentsDeclined : Sheet → Request → Message → ℕ

@@ -11,4 +11,5 @@ pub mod Machine
 pub mod Reader
 pub mod TwoDevices
 pub mod Claims
+pub mod SeveralNames
 pub mod Edges

@@ -93,19 +93,7 @@ argument m k = getD (m .args) k []
 abbrev pub allPlaces : Sheet → List ℕ
 allPlaces sheet = tabulate (λ j. j) (sheet .count)
 
--- the sensors that `sensor-list` and `sensor-value` tell of: all, or the one that is named
-unfoldable pub askedPlaces : Sheet → Message → List ℕ
-askedPlaces sheet m = cond (eqb (length (m .args)) 0) (allPlaces sheet) (placeOf sheet (argument m 0) ∷ [])
-
--- the requests that `help` tells of: all, or the one that is named
-unfoldable pub helpNames : Message → List (List ℕ)
-helpNames m = cond (eqb (length (m .args)) 0) (map (λ (r : Row). r .name) requests) (argument m 0 ∷ [])
-
--- the level of a word; 8 where no level has it: "off, fatal, error, warn, info, debug, trace, all"
-unfoldable pub levelOf : List ℕ → ℕ
-levelOf word = firstBelow (λ l. same (Messages.levelText l) word) 8
-
--- `sensor-sampling`.
+-- A comma list.
 
 -- a byte before the first of some parts
 abbrev pub before : ℕ → List (List ℕ) → List (List ℕ)
@@ -120,6 +108,21 @@ split (b ∷ s) = cond (eqb b (code ",")) ([] ∷ split s) (before b (split s))
 -- the places of the sensors that a request lists; of a name that no sensor has, the count of the sensors
 unfoldable pub listed : Sheet → Message → List ℕ
 listed sheet m = map (placeOf sheet) (split (argument m 0))
+
+-- the sensors that `sensor-list` and `sensor-value` tell of: without a name all, in sheet order, else "a comma list as `sensor-sampling` does. Informs
+-- follow the list's order" (document 02, (a))
+unfoldable pub askedPlaces : Sheet → Message → List ℕ
+askedPlaces sheet m = cond (eqb (length (m .args)) 0) (allPlaces sheet) (listed sheet m)
+
+-- the requests that `help` tells of: all, or the one that is named
+unfoldable pub helpNames : Message → List (List ℕ)
+helpNames m = cond (eqb (length (m .args)) 0) (map (λ (r : Row). r .name) requests) (argument m 0 ∷ [])
+
+-- the level of a word; 8 where no level has it: "off, fatal, error, warn, info, debug, trace, all"
+unfoldable pub levelOf : List ℕ → ℕ
+levelOf word = firstBelow (λ l. same (Messages.levelText l) word) 8
+
+-- `sensor-sampling`.
 
 -- the strategy of a word by its place in `strategyText`; 7 where no strategy has the word
 unfoldable pub strategyNamed : List ℕ → ℕ

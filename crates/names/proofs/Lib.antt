@@ -1,5 +1,5 @@
 pub mod ListingLaws
 pub mod SplitLaws
 pub mod ScanLaws
-pub mod ToldLaws
+pub mod EveryLaws
 pub mod SheetPlaces

@@ -9,16 +9,18 @@ use lib.ListN.{length}
 use borrow.Author.Tests.{leb-false}
 use Rattle.output.specs.Text.{same}
 use Rattle.machine.specs.declared.Sheet.{Sheet}
-use Rattle.machine.specs.Places.{any, firstBelow, twice, Each}
+use Rattle.machine.specs.Places.{tabulate, any, firstBelow, twice, Each}
 use Rattle.machine.specs.Sheet.{sensorOf, nameOf, placeOf, notOnSheet}
 use Rattle.machine.specs.Requests.{allPlaces, split}
+use Rattle.machine.specs.Declined.{placesDeclined}
 use Rattle.machine.proofs.TestLaws.{passed, cond-cases}
 use Rattle.machine.proofs.PlacesLaws.{each-weaker, each-any-false}
 use Rattle.machine.proofs.CountLaws.{few-distinct}
 use Rattle.machine.proofs.SheetLaws.{places-below}
 use Rattle.names.specs.declared.Listed.{Listed}
-use Rattle.names.specs.Scan.{held, placeIn, isPast, listing, placesOf, distinctly, scanned, placesNamed, placesTold, told}
+use Rattle.names.specs.Scan.{held, placeIn, isPast, listing, placesOf, distinctly, scanned, placesNamed}
 use Rattle.names.proofs.ListingLaws.{listing-places}
+use Rattle.names.proofs.EveryLaws.{none-past, none-twice}
 
 map-same : {A B : Type 0} (f g : A → B) → ((x : A) → f x ≡ g x) → (xs : List A) → map f xs ≡ map g xs
 map-same f g e [] = refl
@@ -47,15 +49,11 @@ module _ (sheet : Sheet) (h : sheet .count ≤ 32) where
   unfolding placesNamed
   named-are names = map-same (placeIn sheet) (placeOf sheet) place-is (split names)
 
-  pub told-are : (named : Bool) (name : List ℕ) → placesTold sheet named name ≡ cond named (placeOf sheet name ∷ []) (allPlaces sheet)
-  unfolding placesTold
-  told-are named name = rw (place-is name, held-is)
-
   past-are : (js : List ℕ) → any (isPast sheet) js ≡ any (notOnSheet sheet) js
   past-are js = ap (λ n. any (leb n) js) held-is
 
   module _ (js : List ℕ) where
-    pub scanned-number : scanned sheet js .number ≡ cond (any (notOnSheet sheet) js) 16 (cond (twice js) 21 0)
+    pub scanned-number : scanned sheet js .number ≡ placesDeclined sheet js 0
     unfolding scanned distinctly listing
     scanned-number = rw (past-are js) (go (any (notOnSheet sheet) js) (twice js))
       where
@@ -63,14 +61,6 @@ module _ (sheet : Sheet) (h : sheet .count ≤ 32) where
         go true b = refl
         go false true = refl
         go false false = refl
-
-    pub told-number : told sheet js .number ≡ cond (any (notOnSheet sheet) js) 16 0
-    unfolding told listing
-    told-number = rw (past-are js) (go (any (notOnSheet sheet) js))
-      where
-        go : (a : Bool) → cond a (listing 16 []) (listing 0 js) .number ≡ cond a 16 0
-        go true = refl
-        go false = refl
 
     -- a list that no row declines
     module _ (z : scanned sheet js .number ≡ 0) where
@@ -93,16 +83,7 @@ module _ (sheet : Sheet) (h : sheet .count ≤ 32) where
       pub scanned-below : Each (λ j. j < sheet .count) js
       scanned-below = places-below sheet js (passes .0)
 
-    module _ (z : told sheet js .number ≡ 0) where
-      passes-told : any (notOnSheet sheet) js ≡ false
-      passes-told = passed (any (notOnSheet sheet) js) 16 0 (omega arith) (sym told-number ∙ z) .0
-
-      pub told-is : told sheet js ≡ listing 0 js
-      unfolding told
-      told-is = rw (past-are js, passes-told)
-
-      pub told-places : placesOf (told sheet js) ≡ js
-      told-places = ap placesOf told-is ∙ listing-places 0 js
-
-      pub told-below : Each (λ j. j < sheet .count) js
-      told-below = places-below sheet js passes-told
+  -- the list of all
+  pub every-is : listing 0 (tabulate (λ j. j) (held sheet)) ≡ scanned sheet (allPlaces sheet)
+  every-is = ap (λ n. listing 0 (tabulate (λ j. j) n)) held-is
+      ∙ sym (scanned-is (allPlaces sheet) (scanned-number (allPlaces sheet) ∙ rw (none-past (sheet .count), none-twice (sheet .count))))

@@ -1,5 +1,5 @@
 -- The sensors that a request names, on a sheet of any count: a State holds the first 32. On a sheet in range these are all, and the places
--- are those of `placeOf`, `listed` and `askedPlaces`.
+-- are those of `placeOf`, `listed` and `allPlaces`.
 use Prim.Native.Nat.{ℕ, _-_, _<_, min}
 use Prim.Native.Char.{code}
 use mathlib.Core.Path.{_≡_}
@@ -9,7 +9,7 @@ use lib.Dec.{eqb, leb}
 use lib.ListN.{length, take, replicate}
 use Rattle.output.specs.Text.{same}
 use Rattle.machine.specs.declared.Sheet.{Sheet}
-use Rattle.machine.specs.Places.{tabulate, any, firstBelow, has, twice, Each, isZero}
+use Rattle.machine.specs.Places.{any, firstBelow, has, twice, Each, isZero}
 use Rattle.machine.specs.Sheet.{sensorOf, nameOf}
 use Rattle.machine.specs.Requests.{split}
 use Rattle.names.specs.declared.Listed.{Listed}
@@ -59,11 +59,3 @@ inName b = not (eqb b (code ","))
 -- the places of its names
 unfoldable pub placesNamed : Sheet → List ℕ → List ℕ
 placesNamed sheet names = map (placeIn sheet) (split names)
-
--- all sensors, or the one that is named
-unfoldable pub placesTold : Sheet → Bool → List ℕ → List ℕ
-placesTold sheet named name = cond named (placeIn sheet name ∷ []) (tabulate (λ j. j) (held sheet))
-
--- these, or 16
-unfoldable pub told : Sheet → List ℕ → Listed
-told sheet js = cond (any (isPast sheet) js) (listing 16 []) (listing 0 js)

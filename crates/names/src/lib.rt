@@ -1,4 +1,4 @@
-//! Sensors by their names: the place of a name on the sheet, the scan of a comma list, and the sensors that a request tells of.
+//! Sensors by their names: the place of a name on the sheet, the scan of a comma list, and the list of all.
 use machine::Sensor;
 use machine::Sheet;
 ghost use mathlib.Core.Path.{_≡_};
@@ -128,7 +128,7 @@ pub fn scan(sheet: Sheet, names: &[u8]) -> Listed
 }
 
 // All sensors, in sheet order.
-fn every_place(count: u8) -> Listed
+pub fn every_place(count: u8) -> Listed
     ensures { λ r. ⌜ r ≡ scans.listing 0 (tabulate (λ j. j) (min count 32)) ⌝ }
 {
     let most = held(count);
@@ -143,18 +143,4 @@ fn every_place(count: u8) -> Listed
         count: most,
         places: places,
     }
-}
-
-// The sensor that is named, or all sensors.
-pub fn told(sheet: Sheet, named: bool, name: &[u8]) -> Listed
-    ensures { λ r. ⌜ r ≡ scans.told sheet (scans.placesTold sheet named (now (name .entry))) ⌝ }
-{
-    if !named {
-        return every_place(sheet.count);
-    }
-    let j = place_of(sheet, name);
-    if j == held(sheet.count) {
-        return no_places(16);
-    }
-    with_place(no_places(0), j)
 }

@@ -25,13 +25,13 @@ use Rattle.machine.specs.declared.Request.the-variants.{Help, LogLevel}
 use Rattle.machine.specs.Places.{any, twice, Each}
 use Rattle.machine.specs.Sheet.{placeOf, notOnSheet}
 use Rattle.machine.specs.State.{blankSheet}
-use Rattle.machine.specs.Requests.{Asks, argument, askedPlaces, requestNamed, levelOf, split, listed, strategyNamed, kindAsked, parametersOf, strategyMade}
-use Rattle.machine.specs.Declined.{countFits, helpDeclined, settingDeclined, samplingDeclined, argumentsDeclined, lineDeclined}
-use Rattle.machine.proofs.TestLaws.{cond-not, cond-either, cond-true, cond-false, cond-ap}
+use Rattle.machine.specs.Requests.{Asks, argument, allPlaces, askedPlaces, requestNamed, levelOf, split, listed, strategyNamed, kindAsked, parametersOf, strategyMade}
+use Rattle.machine.specs.Declined.{countFits, helpDeclined, placesDeclined, settingDeclined, samplingDeclined, argumentsDeclined, lineDeclined}
+use Rattle.machine.proofs.TestLaws.{cond-either, cond-true, cond-false, cond-ap}
 use Rattle.declining.proofs.RowsLaws.{Row, row, row-declines, rows-pass, rows-rest}
 use Rattle.names.specs.declared.Listed.{Listed}
-use Rattle.names.specs.Scan.{placesOf, scanned, placesNamed, placesTold}
-use Rattle.names.proofs.SheetPlaces.{named-are, told-are, scanned-number, scanned-places, scanned-count}
+use Rattle.names.specs.Scan.{placesOf, scanned, placesNamed}
+use Rattle.names.proofs.SheetPlaces.{named-are, scanned-number, scanned-places, scanned-count}
 use Rattle.strategies.specs.declared.Setting.{Setting}
 use Rattle.strategies.specs.Settings.{settingOf}
 use Rattle.replies.specs.declared.Found.{Found}
@@ -152,6 +152,16 @@ module _ (line : List ℕ) (head : Header) (h : IsRead line head) where
   pub level-kept : (level : ℕ) → head .count ≡ 0 → level ≡ cond (eqb (length (m .args)) 0) level (levelOf (argument m 0))
   level-kept level e = rw (none-given e)
 
+  -- the sensors that are told of: all where no name is given, else those of the list
+  module _ (sheet : Sheet) where
+    pub all-asked : head .count ≡ 0 → allPlaces sheet ≡ askedPlaces sheet m
+    unfolding askedPlaces
+    all-asked e = rw (none-given e)
+
+    pub list-asked : (head .count ≡ 0 → ⊥) → listed sheet m ≡ askedPlaces sheet m
+    unfolding askedPlaces
+    list-asked ne = rw (some-given ne)
+
   -- the text of the first argument
   module _ {t : List ℕ} (q : t ≡ lines.argument line 0) where
     given : t ≡ argument m 0
@@ -166,10 +176,6 @@ module _ (line : List ℕ) (head : Header) (h : IsRead line head) where
       level-named level e = rw (some-given ne, ← given) e
 
     module _ (sheet : Sheet) (few : sheet .count ≤ 32) where
-      pub told-asked : placesTold sheet (not (eqb (head .count) 0)) t ≡ askedPlaces sheet m
-      unfolding askedPlaces
-      told-asked = told-are sheet few (not (eqb (head .count) 0)) t ∙ rw (given, count-is line head h) (cond-not (eqb (length (m .args)) 0) _ _)
-
       pub listed-asked : placesNamed sheet t ≡ listed sheet m
       unfolding listed
       listed-asked = named-are sheet few t ∙ ap (λ (l : List ℕ). map (placeOf sheet) (split l)) given
@@ -183,7 +189,7 @@ module _ (line : List ℕ) (head : Header) (h : IsRead line head) where
 
   -- the places of the comma list, its first argument
   module _ (sheet : Sheet) (few : sheet .count ≤ 32) {list : Listed} (e : list ≡ scanned sheet (listed sheet m)) where
-    number-is : list .number ≡ cond (any (notOnSheet sheet) (listed sheet m)) 16 (cond (twice (listed sheet m)) 21 0)
+    number-is : list .number ≡ placesDeclined sheet (listed sheet m) 0
     number-is = ap (λ (l : Listed). l .number) e ∙ scanned-number sheet few (listed sheet m)
 
     pub sampling-first : (list .number ≡ 0 → ⊥) → list .number ≡ samplingDeclined sheet m

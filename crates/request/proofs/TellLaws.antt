@@ -32,8 +32,8 @@ use Rattle.machine.proofs.TestLaws.{cond-not}
 use Rattle.machine.proofs.PlacesLaws.{each-weaker}
 use Rattle.machine.proofs.RangeLaws.{range-out, sensors-of}
 use Rattle.names.specs.declared.Listed.{Listed}
-use Rattle.names.specs.Scan.{listing, placesOf, told}
-use Rattle.names.proofs.SheetPlaces.{told-number, told-is, told-places, told-below}
+use Rattle.names.specs.Scan.{listing, placesOf, scanned}
+use Rattle.names.proofs.SheetPlaces.{scanned-number, scanned-is, scanned-places, scanned-below}
 use Rattle.replies.specs.Asking.{asking, namesTold}
 use Rattle.replies.proofs.ToldLaws.{counted}
 use Rattle.request.specs.Reading.{messageOf, IsRead}
@@ -71,16 +71,16 @@ pub few-sensors : (s : State) → inRange s ≡ true → s .sheet .count ≤ 32
 few-sensors s h = sensors-of s (range-out s h) .count-most
 
 -- a list that no row declines
-pub asks : (s : State) (m : Message) {list : Listed} → inRange s ≡ true → sensorsDeclined (s .sheet) m ≡ 0 → list ≡ told (s .sheet) (askedPlaces (s .sheet) m) → Asks (s .sheet) m list
+pub asks : (s : State) (m : Message) {list : Listed} → inRange s ≡ true → sensorsDeclined (s .sheet) m ≡ 0 → list ≡ scanned (s .sheet) (askedPlaces (s .sheet) m) → Asks (s .sheet) m list
 asks s m h z e =
     let js = askedPlaces (s .sheet) m in
     let few = few-sensors s h in
-    let number = told-number (s .sheet) few js ∙ z in
-    let are = ap placesOf e ∙ told-places (s .sheet) few js number in
+    let number = scanned-number (s .sheet) few js ∙ z in
+    let are = ap placesOf e ∙ scanned-places (s .sheet) few js number in
     record {
       are = are;
-      inside = rw (e, told-is (s .sheet) few js number) (listing-inside js);
-      below = rw are (each-weaker (λ j. j < s .sheet .count) (λ j. j < 32) (λ j k. omega arith) js (told-below (s .sheet) few js number));
+      inside = rw (e, scanned-is (s .sheet) few js number) (listing-inside js);
+      below = rw are (each-weaker (λ j. j < s .sheet .count) (λ j. j < 32) (λ j k. omega arith) js (scanned-below (s .sheet) few js number));
     }
 
 pub list-long : {sheet : Sheet} {m : Message} {list : Listed} → Asks sheet m list → list .count ≡ length (placesOf list)

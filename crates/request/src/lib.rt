@@ -76,17 +76,7 @@ fn level_asked(line: &[u8], head: Header, level: u8) -> u8
     informs::level_named(&text[..n])
 }
 
-// The sensors that `sensor-list` and `sensor-value` tell of.
-fn sensors_told(sheet: Sheet, line: &[u8], head: Header) -> Listed
-    requires { ⌜ IsRead (now line) head × (sheet .count ≤ 32) ⌝ }
-    ensures { λ r. ⌜ r ≡ scans.told sheet (requests.askedPlaces sheet (messageOf (now (line .entry)))) ⌝ }
-{
-    let mut text: [u8; 2048] = [0; 2048];
-    let n = argument(line, 0, &mut text);
-    names::told(sheet, head.count != 0, &text[..n])
-}
-
-// The sensors that `sensor-sampling` lists.
+// The sensors of the comma list that is a line's first argument.
 fn sensors_listed(sheet: Sheet, line: &[u8], head: Header) -> Listed
     requires { ⌜ IsRead (now line) head × (sheet .count ≤ 32) ⌝ }
     ensures { λ r. ⌜ r ≡ scans.scanned sheet (requests.listed sheet (messageOf (now (line .entry)))) ⌝ }
@@ -94,6 +84,17 @@ fn sensors_listed(sheet: Sheet, line: &[u8], head: Header) -> Listed
     let mut text: [u8; 2048] = [0; 2048];
     let n = argument(line, 0, &mut text);
     names::scan(sheet, &text[..n])
+}
+
+// The sensors that `sensor-list` and `sensor-value` tell of: all, or those of the list.
+fn sensors_told(sheet: Sheet, line: &[u8], head: Header) -> Listed
+    requires { ⌜ IsRead (now line) head × (sheet .count ≤ 32) ⌝ }
+    ensures { λ r. ⌜ r ≡ scans.scanned sheet (requests.askedPlaces sheet (messageOf (now (line .entry)))) ⌝ }
+{
+    if head.count == 0 {
+        return names::every_place(sheet.count);
+    }
+    sensors_listed(sheet, line, head)
 }
 
 // The strategy that a line sets for the sensors at some places.
@@ -132,7 +133,7 @@ fn level_row(line: &[u8], head: Header) -> u8
     }
 }
 
-// Row 16: `sensor-list` and `sensor-value` of a name that no sensor has.
+// Rows 16 and 21: `sensor-list` and `sensor-value` of a name that no sensor has, or that stands twice.
 fn told_row(sheet: Sheet, line: &[u8], head: Header) -> u8
     requires { ⌜ IsRead (now line) head × (sheet .count ≤ 32) ⌝ }
     ensures { λ r. ⌜ r ≡ calls.sensorsDeclined sheet (messageOf (now (line .entry))) ⌝ }

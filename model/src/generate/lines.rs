@@ -112,6 +112,19 @@ fn any_name(random: &mut Random, device: &Device) -> String {
     name
 }
 
+/// A name, or a comma list, at times with `\@` inside.
+fn asked_names(random: &mut Random, device: &Device) -> String {
+    if random.chance(500) {
+        return any_name(random, device);
+    }
+    let mut names = sampling::list(random, device);
+    if random.chance(60) {
+        let place = random.place(names.len() + 1);
+        names.insert_str(place, "\\@");
+    }
+    names
+}
+
 /// `?sensor-sampling` with a strategy.
 fn sampling_line(random: &mut Random, device: &Device) -> Vec<u8> {
     let faults = if random.chance(600) { sampling::NONE } else { sampling::SOME };
@@ -153,7 +166,7 @@ fn request(random: &mut Random, device: &Device, profile: &Profile) -> String {
         "help" if !random.chance(profile.all_queries) => vec![help_name(random)],
         "log-level" if random.chance(750) => vec![level(random)],
         "sensor-list" | "sensor-value" if !random.chance(profile.all_queries) => {
-            vec![any_name(random, device)]
+            vec![asked_names(random, device)]
         }
         _ => vec![],
     };
@@ -301,6 +314,7 @@ fn long_line(random: &mut Random, profile: &Profile) -> Vec<u8> {
         ("?watchdog[5]", b'\t'),
         ("?help ", b'h'),
         ("?sensor-sampling load,", b','),
+        ("?sensor-value load,", b','),
         ("?sensor-sampling load differential ", b'9'),
         ("?sensor-sampling load period 0.", b'0'),
         ("#inform ", b'i'),

@@ -177,6 +177,13 @@ fn places(random: &mut Random, device: &Device) -> Vec<usize> {
     places
 }
 
+/// A comma list alone, for a query: right, or wrong in its names.
+pub fn list(random: &mut Random, device: &Device) -> String {
+    let faults = if random.chance(600) { NONE } else { Faults { names: 500, ..NONE } };
+    let places = places(random, device);
+    names(random, device, &places, &faults)
+}
+
 /// The comma list; at times with an unknown name, an empty one, or one twice.
 fn names(random: &mut Random, device: &Device, places: &[usize], faults: &Faults) -> String {
     let mut names: Vec<String> = places.iter().map(|&place| sensor_name(device, place)).collect();
