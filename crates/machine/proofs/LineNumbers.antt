@@ -2,9 +2,10 @@
 use Prim.Native.Nat.{ℕ, _+_, _≤_}
 use native.Mathlib.Omega.{arith}
 use mathlib.Core.Path.{_≡_, refl, ap, sym, _∙_}
-use mathlib.Core.Bool.{true, cond, not, _&&_, _||_}
+use mathlib.Core.Bool.{true, not, _&&_, _||_}
 use mathlib.Core.Option.{Option, none, some}
 use lib.Dec.{eqb, leb, ltb}
+use mathlib.Core.List.{List}
 use lib.ListN.{length, drop}
 use borrow.Author.Tests.{leb-true, ne-eqb}
 use Rattle.message.specs.Message.{Message}
@@ -14,7 +15,7 @@ use Rattle.machine.specs.declared.Request.the-variants.{ClientList, Halt
 use Rattle.machine.specs.Places.{any, twice}
 use Rattle.machine.specs.Sheet.{sensorOf, notOnSheet}
 use Rattle.machine.specs.Requests.{Asked, Nothing, NotMessage, Reply, Unknown, Asks, argument, askedPlaces, requestNamed, levelOf, listed, kindAsked, parameterCount, byDifference, isBad, parametersOf, strategyMade, shortestOverLongest}
-use Rattle.machine.specs.Declined.{countFits, helpDeclined, settingDeclined, samplingDeclined, argumentsDeclined, lineDeclined}
+use Rattle.machine.specs.Declined.{countFits, placesDeclined, helpDeclined, settingDeclined, samplingDeclined, argumentsDeclined, lineDeclined}
 use Rattle.machine.proofs.TestLaws.{cond-either, and-true}
 
 -- 0, or a number from `least` to 23
@@ -28,18 +29,21 @@ help-row : (o : Option Request) → OfRequest (helpDeclined o)
 help-row none = refl
 help-row (some r) = refl
 
+-- of a list: its two rows, and those behind them
+places-row : (sheet : Sheet) (js : List ℕ) (rest : ℕ) → OfRequest rest → OfRequest (placesDeclined sheet js rest)
+places-row sheet js rest h = cond-either OfRequest (any (notOnSheet sheet) js) 16 _ refl (cond-either OfRequest (twice js) 21 rest refl h)
+
 sampling-row : (sheet : Sheet) (m : Message) → OfRequest (samplingDeclined sheet m)
 unfolding samplingDeclined settingDeclined
 sampling-row sheet m =
-    cond-either OfRequest (any (notOnSheet sheet) (listed sheet m)) 16 _ refl
-    (cond-either OfRequest (twice (listed sheet m)) 21 _ refl
+    places-row sheet (listed sheet m) _
     (cond-either OfRequest (eqb (length (m .args)) 1) _ (settingDeclined sheet (listed sheet m) (kindAsked m) (length (m .args)) (drop 2 (m .args)))
     (cond-either OfRequest (ltb 1 (length (listed sheet m))) 15 0 refl refl)
     (cond-either OfRequest (leb 7 (kindAsked m)) 17 _ refl
     (cond-either OfRequest (not (eqb (length (m .args)) (2 + parameterCount (kindAsked m)))) 15 _ refl
     (cond-either OfRequest (byDifference (kindAsked m) && any (λ j. leb 3 (sensorOf sheet j .kind)) (listed sheet m)) 18 _ refl
     (cond-either OfRequest (any isBad (parametersOf sheet (listed sheet m) (kindAsked m) (drop 2 (m .args)))) 19 _ refl
-    (cond-either OfRequest (shortestOverLongest (strategyMade sheet (listed sheet m) (kindAsked m) (drop 2 (m .args)))) 20 0 refl refl)))))))
+    (cond-either OfRequest (shortestOverLongest (strategyMade sheet (listed sheet m) (kindAsked m) (drop 2 (m .args)))) 20 0 refl refl))))))
 
 arguments-row : (sheet : Sheet) (r : Request) (m : Message) → OfRequest (argumentsDeclined sheet r m)
 unfolding argumentsDeclined
@@ -48,9 +52,9 @@ arguments-row sheet Halt m = refl
 arguments-row sheet Help m = cond-either OfRequest (eqb (length (m .args)) 0) 0 (helpDeclined (requestNamed (argument m 0))) refl (help-row (requestNamed (argument m 0)))
 arguments-row sheet LogLevel m = cond-either OfRequest (eqb (length (m .args)) 0) 0 _ refl (cond-either OfRequest (leb 8 (levelOf (argument m 0))) 22 0 refl refl)
 arguments-row sheet Restart m = refl
-arguments-row sheet SensorList m = cond-either OfRequest (any (notOnSheet sheet) (askedPlaces sheet m)) 16 (cond (twice (askedPlaces sheet m)) 21 0) refl (cond-either OfRequest (twice (askedPlaces sheet m)) 21 0 refl refl)
+arguments-row sheet SensorList m = places-row sheet (askedPlaces sheet m) 0 refl
 arguments-row sheet SensorSampling m = sampling-row sheet m
-arguments-row sheet SensorValue m = cond-either OfRequest (any (notOnSheet sheet) (askedPlaces sheet m)) 16 (cond (twice (askedPlaces sheet m)) 21 0) refl (cond-either OfRequest (twice (askedPlaces sheet m)) 21 0 refl refl)
+arguments-row sheet SensorValue m = places-row sheet (askedPlaces sheet m) 0 refl
 arguments-row sheet VersionList m = refl
 arguments-row sheet Watchdog m = refl
 

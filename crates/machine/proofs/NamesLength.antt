@@ -92,10 +92,11 @@ module _ (sheet : Sheet) (r : Sensors sheet) where
   each-place [] h = tt
   each-place (w ∷ ws) h = (name-known w (h .0), each-place ws (h .1))
 
-  module _ (m : Message) (known : any (notOnSheet sheet) (listed sheet m) ≡ false) (once : twice (listed sheet m) ≡ false) where
-    pub listed-most : length (listed sheet m) ≤ 32
-    listed-most = le-trans (few-distinct (sheet .count) (listed sheet m) (places-below sheet (listed sheet m) known) once) (r .count-most)
+  -- no more of them than the sheet may have sensors
+  pub places-most : (js : List ℕ) → any (notOnSheet sheet) js ≡ false → twice js ≡ false → length js ≤ 32
+  places-most js known once = le-trans (few-distinct (sheet .count) js (places-below sheet js known) once) (r .count-most)
 
+  module _ (m : Message) (known : any (notOnSheet sheet) (listed sheet m) ≡ false) (once : twice (listed sheet m) ≡ false) where
     pub names-most : length (arg (argument m 0)) ≤ 1058
     unfolding listed
     names-most =
@@ -103,4 +104,4 @@ module _ (sheet : Sheet) (r : Sensors sheet) where
         let parts = each-place (split t) (places-below sheet (listed sheet m) known) in
         let short = each-weaker (λ w. (length w ≤ 32) × Every Raw w) (λ w. length w ≤ 32) (λ w h. h .0) (split t) parts in
         let plain = each-weaker (λ w. (length w ≤ 32) × Every Raw w) (Every Raw) (λ w h. h .1) (split t) parts in
-        omega (arith, arg-raw t (split-every Raw comma-raw t plain), split-length t, commas-most 32 (split t) short, length-map (split t) (placeOf sheet), listed-most)
+        omega (arith, arg-raw t (split-every Raw comma-raw t plain), split-length t, commas-most 32 (split t) short, length-map (split t) (placeOf sheet), places-most (listed sheet m) known once)

@@ -18,7 +18,7 @@ use Rattle.machine.specs.Range.{periodOk, ratesOk, differenceOk, strateg
 use Rattle.machine.specs.Requests.{listed, byDifference, parameterCount, isBad, numberOf, differenceOf, parametersOf, strategyBy, shortestOverLongest, strategyMade, kindAsked, strategyAsked, split, before, argument}
 use Rattle.machine.specs.Declined.{settingDeclined, samplingDeclined}
 use Rattle.machine.proofs.TestLaws.{and-in, and-false, or-false, passed, cond-false, eqb-refl}
-use Rattle.machine.proofs.SheetLaws.{Sensors}
+use Rattle.machine.proofs.SheetLaws.{Sensors, places-passed}
 use Rattle.machine.proofs.ParameterRange.{period-fits, differences-fit}
 use Prim.Native.Char.{code}
 use Rattle.machine.proofs.PlacesLaws.{all-of, none-has}
@@ -80,8 +80,8 @@ listed-some sheet m = rw (length-map (split (argument m 0)) (placeOf sheet)) (sp
 pub listed-known : (sheet : Sheet) (m : Message) → samplingDeclined sheet m ≡ 0 → (any (notOnSheet sheet) (listed sheet m) ≡ false) × (twice (listed sheet m) ≡ false)
 unfolding samplingDeclined
 listed-known sheet m e =
-    let a = passed (any (notOnSheet sheet) (listed sheet m)) 16 _ (omega arith) e in
-    (a .0, passed (twice (listed sheet m)) 21 _ (omega arith) (a .1) .0)
+    let a = places-passed sheet (listed sheet m) _ e in
+    (a .0, a .1 .0)
 
 -- a listed sensor is on the sheet
 pub listed-below : (sheet : Sheet) (m : Message) → samplingDeclined sheet m ≡ 0 → (j : ℕ) → has j (listed sheet m) ≡ true → j < sheet .count
@@ -97,10 +97,9 @@ record Setting (sheet : Sheet) (m : Message) : Type 0 where
 setting-passed : (sheet : Sheet) (m : Message) → samplingDeclined sheet m ≡ 0 → eqb (length (m .args)) 1 ≡ false → Setting sheet m
 unfolding samplingDeclined settingDeclined strategyAsked
 setting-passed sheet m e q =
-    let a = passed (any (notOnSheet sheet) (listed sheet m)) 16 _ (omega arith) e in
-    let b = passed (twice (listed sheet m)) 21 _ (omega arith) (a .1) in
+    let rest = places-passed sheet (listed sheet m) _ e .1 .1 in
     let own = settingDeclined sheet (listed sheet m) (kindAsked m) (length (m .args)) (drop 2 (m .args)) in
-    let c : own ≡ 0 = sym (cond-false (eqb (length (m .args)) 1) (cond (ltb 1 (length (listed sheet m))) 15 0) own q) ∙ b .1 in
+    let c : own ≡ 0 = sym (cond-false (eqb (length (m .args)) 1) (cond (ltb 1 (length (listed sheet m))) 15 0) own q) ∙ rest in
     let d = passed (leb 7 (kindAsked m)) 17 _ (omega arith) c in
     let f = passed (not (eqb (length (m .args)) (2 + parameterCount (kindAsked m)))) 15 _ (omega arith) (d .1) in
     let g = passed (byDifference (kindAsked m) && any (λ j. leb 3 (sensorOf sheet j .kind)) (listed sheet m)) 18 _ (omega arith) (f .1) in

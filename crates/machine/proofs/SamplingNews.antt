@@ -12,7 +12,7 @@ use Rattle.message.specs.Message.{Message}
 use Rattle.machine.specs.declared.Sheet.{Sheet}
 use Rattle.machine.specs.declared.Strategy.{Strategy}
 use Rattle.machine.specs.declared.State.{State}
-use Rattle.machine.specs.Places.{any, twice}
+use Rattle.machine.specs.Places.{any}
 use Rattle.machine.specs.Sheet.{sensorOf, notOnSheet, sensorsOk}
 use Rattle.machine.specs.State.{pairOf}
 use Rattle.machine.specs.Range.{strategyOk}
@@ -21,7 +21,7 @@ use Rattle.machine.specs.Requests.{argument, listed, firstOf, strategyAs
 use Rattle.machine.specs.Declined.{samplingDeclined}
 use Rattle.machine.specs.Reader.{SetTo, news}
 use Rattle.machine.proofs.TestLaws.{and-in, or-false, passed, cond-true}
-use Rattle.machine.proofs.SheetLaws.{sensors-out}
+use Rattle.machine.proofs.SheetLaws.{sensors-out, places-passed}
 use Rattle.machine.proofs.RangeLaws.{InRange}
 use Rattle.machine.proofs.PairRange.{held-suits}
 use Rattle.machine.proofs.SamplingLaws.{listed-known, setting-fits}
@@ -45,9 +45,8 @@ setting-told sheet h m e d q = listed-told sheet h m e d (strategyAsked sheet m)
 pub query-one : (sheet : Sheet) (m : Message) → samplingDeclined sheet m ≡ 0 → eqb (length (m .args)) 1 ≡ true → ltb 1 (length (listed sheet m)) ≡ false
 unfolding samplingDeclined
 query-one sheet m e q =
-    let a = passed (any (notOnSheet sheet) (listed sheet m)) 16 _ (omega arith) e in
-    let b = passed (twice (listed sheet m)) 21 _ (omega arith) (a .1) in
-    passed (ltb 1 (length (listed sheet m))) 15 0 (omega arith) (sym (cond-true (eqb (length (m .args)) 1) (cond (ltb 1 (length (listed sheet m))) 15 0) _ q) ∙ b .1) .0
+    let rest = places-passed sheet (listed sheet m) _ e .1 .1 in
+    passed (ltb 1 (length (listed sheet m))) 15 0 (omega arith) (sym (cond-true (eqb (length (m .args)) 1) (cond (ltb 1 (length (listed sheet m))) 15 0) _ q) ∙ rest) .0
 
 query-suits : (s : State) → InRange s → (c : ℕ) → c < 8 → (js : List ℕ) → any (notOnSheet (s .sheet)) js ≡ false → ltb 1 (length js) ≡ false
     → all (λ j. strategyOk (sensorOf (s .sheet) j .kind) (pairOf s c (getD js 0 0) .strategy)) js ≡ true

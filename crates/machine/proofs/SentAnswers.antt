@@ -27,15 +27,14 @@ use Rattle.machine.specs.Messages
 use Rattle.machine.specs.Report.{Work}
 use Rattle.machine.specs.Requests.{Row, requests, requestIn, requestNamed, argument, askedPlaces, helpNames, listed, firstOf, strategyAsked, levelAsked, sampledSends, addresses, sampling, answer}
 use Rattle.machine.specs.Declined.{sensorsDeclined, helpDeclined, samplingDeclined, argumentsDeclined}
-use Rattle.machine.proofs.TestLaws.{and-true, or-true, cond-true, cond-cases, passed}
+use Rattle.machine.proofs.TestLaws.{and-true, or-true, cond-true, cond-cases}
 use Rattle.machine.proofs.PlacesLaws.{each-gather, each-one, each-weaker, each-any-false, each-map, gather-length}
-use Rattle.machine.proofs.CountLaws.{few-distinct}
-use Rattle.machine.proofs.SheetLaws.{text-out, Sensors, places-below}
+use Rattle.machine.proofs.SheetLaws.{text-out, Sensors, places-passed, places-below}
 use Rattle.machine.proofs.RangeLaws.{InRange, stored-is, sensors-of}
 use Rattle.machine.proofs.SamplingLaws.{listed-known, listed-below, setting-suits, first-listed}
 use Rattle.machine.proofs.PairRange.{held-suits}
 use Rattle.machine.proofs.LineLengths.{text-short, argsMost, Sound}
-use Rattle.machine.proofs.NamesLength.{listed-most, names-most}
+use Rattle.machine.proofs.NamesLength.{places-most, names-most}
 use Rattle.machine.proofs.ParameterLengths.{held-most}
 use Rattle.machine.proofs.DeliveryLengths.{Served, served, served-more, Sendable, sendable, one-sent, one-length, where-length, served-where, counted-sent}
 use Rattle.machine.proofs.SentSizes.{sound-disconnect, sound-report, sound-client, sound-help, sound-version, sound-sensor, sound-value, sound-ok, sound-level, sound-sampling}
@@ -108,10 +107,8 @@ helped-short sheet m h = go (eqb (length (m .args)) 0) h
 -- the sensors that are told of
 places-short : (sheet : Sheet) → Sensors sheet → (m : Message) → sensorsDeclined sheet m ≡ 0 → (length (askedPlaces sheet m) ≤ 32) × Each (λ j. j < sheet .count) (askedPlaces sheet m)
 places-short sheet r m h =
-    let js = askedPlaces sheet m in
-    let a = passed (any (notOnSheet sheet) js) 16 (cond (twice js) 21 0) (omega arith) h in
-    let below = places-below sheet js (a .0) in
-    (few-distinct 32 js (each-weaker (λ j. j < sheet .count) (λ j. j < 32) (λ j k. omega (arith, r .count-most)) js below) (passed (twice js) 21 0 (omega arith) (a .1) .0), below)
+    let a = places-passed sheet (askedPlaces sheet m) 0 h in
+    (places-most sheet r (askedPlaces sheet m) (a .0) (a .1 .0), places-below sheet (askedPlaces sheet m) (a .0))
 
 module _ (s : State) (g : InRange s) (c : ℕ) (hc : c < 8) (m : Message) (r : Head m) where
   ending-sent : (why : List ℕ) → length why ≤ 32 → Sendable (to c (Messages.okReply m []) ∷ Messages.toAll s (Messages.disconnect why))
@@ -144,7 +141,7 @@ module _ (s : State) (g : InRange s) (c : ℕ) (hc : c < 8) (m : Message) (r : H
         go : (b : Bool) → Sendable (to c (Messages.samplingReply m (argument m 0) (firstOf (s .sheet) js) st) ∷ cond b [] (map (λ j. to c (Messages.reportOf (s .sheet) s j)) js))
         go true = one-sent _ (reply-served st h)
         go false = sendable 33 1300 _ (omega arith) (omega arith)
-            (omega (arith, length-map js (λ j. to c (Messages.reportOf (s .sheet) s j)), listed-most (s .sheet) (sensors-of s g) m known once)) (reply-served st h, reports-served)
+            (omega (arith, length-map js (λ j. to c (Messages.reportOf (s .sheet) s j)), places-most (s .sheet) (sensors-of s g) (listed (s .sheet) m) known once)) (reply-served st h, reports-served)
 
   sampling-sent : samplingDeclined (s .sheet) m ≡ 0 → Sendable (sampling (s .sheet) s c m .sent)
   unfolding sampling

@@ -12,9 +12,10 @@ use Rattle.output.proofs.TextLaws.{same-refl, same-true}
 use Rattle.machine.specs.declared.Choice.{Choice}
 use Rattle.machine.specs.declared.Sensor.{Sensor}
 use Rattle.machine.specs.declared.Sheet.{Sheet}
-use Rattle.machine.specs.Places.{any, allBelow, Each}
+use Rattle.machine.specs.Places.{any, allBelow, twice, Each}
 use Rattle.machine.specs.Sheet.{noChoice, sensorOf, nameOf, optionOf, placeOf, notOnSheet, distinct, textOk, nameByte, printable, zeroByte, sensorOk, sensorNone, sensorOkAt, sensorsOk, limitsOk, choiceNone, choiceOk, optionsOk}
-use Rattle.machine.proofs.TestLaws.{and-true, cond-true}
+use Rattle.machine.specs.Declined.{placesDeclined}
+use Rattle.machine.proofs.TestLaws.{and-true, cond-true, passed}
 use Rattle.machine.proofs.PlacesLaws.{below-at, first-is, first-holds, each-weaker, each-any-false}
 
 -- a text's bounds and bytes
@@ -147,6 +148,10 @@ place-of-name sheet r j h = first-is (λ i. same (nameOf (sensorOf sheet i)) (na
 pub name-of-place : (sheet : Sheet) (name : List ℕ) → placeOf sheet name < sheet .count → nameOf (sensorOf sheet (placeOf sheet name)) ≡ name
 unfolding placeOf
 name-of-place sheet name h = same-true _ name (first-holds (λ i. same (nameOf (sensorOf sheet i)) name) (sheet .count) h)
+
+-- places that the rows 16 and 21 let through, and the rows behind these
+pub places-passed : (sheet : Sheet) (js : List ℕ) (rest : ℕ) → placesDeclined sheet js rest ≡ 0 → (any (notOnSheet sheet) js ≡ false) × ((twice js ≡ false) × (rest ≡ 0))
+places-passed sheet js rest e = let a = passed (any (notOnSheet sheet) js) 16 _ (omega arith) e in (a .0, passed (twice js) 21 rest (omega arith) (a .1))
 
 -- places of which none is off the sheet
 pub places-below : (sheet : Sheet) (js : List ℕ) → any (notOnSheet sheet) js ≡ false → Each (λ j. j < sheet .count) js

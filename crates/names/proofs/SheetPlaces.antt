@@ -13,10 +13,10 @@ use Rattle.machine.specs.Places.{tabulate, any, firstBelow, twice, Each}
 use Rattle.machine.specs.Sheet.{sensorOf, nameOf, placeOf, notOnSheet}
 use Rattle.machine.specs.Requests.{allPlaces, split}
 use Rattle.machine.specs.Declined.{placesDeclined}
-use Rattle.machine.proofs.TestLaws.{passed, cond-cases}
+use Rattle.machine.proofs.TestLaws.{cond-cases}
 use Rattle.machine.proofs.PlacesLaws.{each-weaker, each-any-false}
 use Rattle.machine.proofs.CountLaws.{few-distinct}
-use Rattle.machine.proofs.SheetLaws.{places-below}
+use Rattle.machine.proofs.SheetLaws.{places-passed, places-below}
 use Rattle.names.specs.declared.Listed.{Listed}
 use Rattle.names.specs.Scan.{held, placeIn, isPast, listing, placesOf, distinctly, scanned, placesNamed}
 use Rattle.names.proofs.ListingLaws.{listing-places}
@@ -65,9 +65,7 @@ module _ (sheet : Sheet) (h : sheet .count ≤ 32) where
     -- a list that no row declines
     module _ (z : scanned sheet js .number ≡ 0) where
       passes : (any (notOnSheet sheet) js ≡ false) × (twice js ≡ false)
-      passes =
-          let a = passed (any (notOnSheet sheet) js) 16 (cond (twice js) 21 0) (omega arith) (sym scanned-number ∙ z) in
-          (a .0, passed (twice js) 21 0 (omega arith) (a .1) .0)
+      passes = let a = places-passed sheet js 0 (sym scanned-number ∙ z) in (a .0, a .1 .0)
 
       pub scanned-is : scanned sheet js ≡ listing 0 js
       unfolding scanned distinctly
