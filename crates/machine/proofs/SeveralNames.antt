@@ -3,26 +3,26 @@ use Prim.Native.Nat.{ℕ, _≤_, _<_}
 use Prim.Native.Char.{code}
 use native.Mathlib.Omega.{arith}
 use mathlib.Core.Path.{_≡_, refl, ap, sym, _∙_}
-use mathlib.Core.Bool.{Bool, true, false, cond, _||_}
+use mathlib.Core.Bool.{Bool, true, false, cond, not, _||_}
 use mathlib.Core.List.{List, [], _∷_, map, map-map}
-use lib.Dec.{eqb}
+use lib.Dec.{eqb, leb}
 use lib.ListN.{length}
-use borrow.Author.Tests.{le-ltb, leb-false, eq-eqb, eqb-true}
+use borrow.Author.Tests.{le-leb, le-ltb, leb-false, eq-eqb, eqb-true}
 use Rattle.output.specs.Text.{same}
 use Rattle.output.proofs.TextLaws.{same-refl, same-true}
 use Rattle.message.specs.Message.{Message}
 use Rattle.machine.specs.declared.Sheet.{Sheet}
 use Rattle.machine.specs.declared.State.{State}
 use Rattle.machine.specs.declared.Request.{Request}
-use Rattle.machine.specs.declared.Request.the-variants.{SensorList, SensorValue}
+use Rattle.machine.specs.declared.Request.the-variants.{SensorList, SensorSampling, SensorValue}
 use Rattle.machine.specs.Places.{any, has, twice, Each}
 use Rattle.machine.specs.Sheet.{placeOf, notOnSheet, sensorOf, nameOf}
 use Rattle.machine.specs.Messages.{sensorInform, valueInform, countedAnswer}
 use Rattle.machine.specs.Requests.{Asks, split, before, listed, askedPlaces, answer, sendsOnly}
-use Rattle.machine.specs.Declined.{Line, callOf, declined, actionDeclined, clientDeclined, lineDeclined, lineRefusal, refusal, countFits, argumentsDeclined, placesDeclined}
+use Rattle.machine.specs.Declined.{Line, callOf, declined, actionDeclined, clientDeclined, lineDeclined, lineRefusal, refusal, countFits, argumentsDeclined, placesDeclined, samplingDeclined}
 use Rattle.machine.specs.Machine.{done, left, outcome, perform, lineWork, step}
-use Rattle.machine.specs.SeveralNames.{unknownName, namedTwice, replyAlone, namesAnswered, nameAnswered, informed, sensorOn, valueOn, Received, AnswersNames, SeveralNames}
-use Rattle.machine.proofs.TestLaws.{test-same, or-false, eqb-sym}
+use Rattle.machine.specs.SeveralNames.{unknownName, namedTwice, replyAlone, namesAnswered, nameAnswered, informed, sensorOn, valueOn, Received, AnswersNames, DeclinesAlike, SeveralNames}
+use Rattle.machine.proofs.TestLaws.{test-same, or-false, cond-false, eqb-sym}
 use Rattle.machine.proofs.PlacesLaws.{each-any-false, each-weaker}
 use Rattle.machine.proofs.SheetLaws.{name-of-place}
 
@@ -55,6 +55,17 @@ module _ (sheet : Sheet) where
   places-twice [] h = refl
   places-twice (a ∷ names) h = rw (has-place a names (h .0) (h .1), places-twice names (h .1))
 
+  -- the rows 16 and 21, by the names
+  places-names : (names : List (List ℕ)) (rest : ℕ) → placesDeclined sheet (map (placeOf sheet) names) rest ≡ cond (any (unknownName sheet) names) 16 (cond (namedTwice names) 21 rest)
+  places-names names rest = ap (λ b. cond b 16 (cond (twice (map (placeOf sheet) names)) 21 rest)) (any-map (notOnSheet sheet) (placeOf sheet) names) ∙ go (any (unknownName sheet) names) refl
+    where
+      known : any (unknownName sheet) names ≡ false → Each Known names
+      known e = each-weaker (λ name. unknownName sheet name ≡ false) Known (λ name. leb-false (sheet .count) (placeOf sheet name)) names (each-any-false (unknownName sheet) names e)
+
+      go : (b : Bool) → any (unknownName sheet) names ≡ b → cond b 16 (cond (twice (map (placeOf sheet) names)) 21 rest) ≡ cond b 16 (cond (namedTwice names) 21 rest)
+      go true e = refl
+      go false e = rw (places-twice names (known e))
+
 -- a text without a comma is one name
 split-one : (name : List ℕ) → has (code ",") name ≡ false → split name ≡ name ∷ []
 unfolding has any
@@ -68,50 +79,54 @@ module _ (s : State) (c : ℕ) (line lent : List ℕ) (r : Request) (m : Message
   unfolding declined actionDeclined clientDeclined
   row-is = rw (q .in-range, le-ltb (length lent) 65536 (q .room), q .running, le-ltb 7 c (omega (arith, q .client)), q .there, q .asks)
 
-  module _ (names : List (List ℕ)) (f : ℕ → Message)
-      (row : lineDeclined (s .sheet) (Asks r m) ≡ placesDeclined (s .sheet) (map (placeOf (s .sheet)) names) 0)
-      (work : answer (s .sheet) s c r m ≡ sendsOnly s (countedAnswer c m (map f (map (placeOf (s .sheet)) names)))) where
-    -- declined with 16 or 21
-    alone : (n : ℕ) → 12 ≤ n → left s n (Line c line) ≡ replyAlone s c m n
-    unfolding refusal lineRefusal
-    alone n h = rw (le-ltb n 12 h, q .asks)
+  -- declined with 16 or 21
+  alone : (n : ℕ) → 12 ≤ n → left s n (Line c line) ≡ replyAlone s c m n
+  unfolding refusal lineRefusal
+  alone n h = rw (le-ltb n 12 h, q .asks)
 
-    -- carried out
-    all-told : done (perform (s .sheet) s (Line c line)) ≡ informed s c m (map (λ name. f (placeOf (s .sheet) name)) names)
-    unfolding perform lineWork countedAnswer
-    all-told = rw (q .asks, work, map-map f (placeOf (s .sheet)) names)
+  module _ (names : List (List ℕ)) (rest : ℕ) {js : List ℕ} (row : lineDeclined (s .sheet) (Asks r m) ≡ placesDeclined (s .sheet) js rest) (are : js ≡ map (placeOf (s .sheet)) names) where
+    by-names : step s (callOf (Line c line) lent) ≡ outcome (s .sheet) s (Line c line) (cond (any (unknownName (s .sheet)) names) 16 (cond (namedTwice names) 21 rest))
+    by-names = ap (outcome (s .sheet) s (Line c line)) (row-is ∙ row ∙ ap (λ js. placesDeclined (s .sheet) js rest) are ∙ places-names (s .sheet) names rest)
 
-    told : step s (callOf (Line c line) lent) ≡ namesAnswered s c m (λ name. f (placeOf (s .sheet) name)) names
+    alike : DeclinesAlike s c line lent m names
     unfolding outcome
-    told = ap (outcome (s .sheet) s (Line c line)) (row-is ∙ row ∙ ap (λ b. cond b 16 (cond (twice js) 21 0)) unknown) ∙ go (any (unknownName (s .sheet)) names) refl
-      where
-        js : List ℕ
-        js = map (placeOf (s .sheet)) names
+    alike = record { unknown = λ e. by-names ∙ rw e (alone 16 (omega arith)); named-twice = λ e t. by-names ∙ rw (e, t) (alone 21 (omega arith)) }
 
-        unknown : any (notOnSheet (s .sheet)) js ≡ any (unknownName (s .sheet)) names
-        unknown = any-map (notOnSheet (s .sheet)) (placeOf (s .sheet)) names
+  -- carried out
+  all-told : (f : ℕ → Message) (names : List (List ℕ)) → answer (s .sheet) s c r m ≡ sendsOnly s (countedAnswer c m (map f (map (placeOf (s .sheet)) names)))
+      → done (perform (s .sheet) s (Line c line)) ≡ informed s c m (map (λ name. f (placeOf (s .sheet) name)) names)
+  unfolding perform lineWork countedAnswer
+  all-told f names work = rw (q .asks, work, map-map f (placeOf (s .sheet)) names)
 
-        once : (b : Bool) → outcome (s .sheet) s (Line c line) (cond b 21 0) ≡ cond b (replyAlone s c m 21) (informed s c m (map (λ name. f (placeOf (s .sheet) name)) names))
-        once true = alone 21 (omega arith)
-        once false = all-told
+  told : (f : ℕ → Message) (names : List (List ℕ)) → lineDeclined (s .sheet) (Asks r m) ≡ placesDeclined (s .sheet) (map (placeOf (s .sheet)) names) 0
+      → answer (s .sheet) s c r m ≡ sendsOnly s (countedAnswer c m (map f (map (placeOf (s .sheet)) names)))
+      → step s (callOf (Line c line) lent) ≡ namesAnswered s c m (λ name. f (placeOf (s .sheet) name)) names
+  unfolding outcome
+  told f names row work = by-names names 0 row refl ∙ go (any (unknownName (s .sheet)) names) (namedTwice names)
+    where
+      go : (a b : Bool) → outcome (s .sheet) s (Line c line) (cond a 16 (cond b 21 0))
+          ≡ cond a (replyAlone s c m 16) (cond b (replyAlone s c m 21) (informed s c m (map (λ name. f (placeOf (s .sheet) name)) names)))
+      go true b = alone 16 (omega arith)
+      go false true = alone 21 (omega arith)
+      go false false = all-told f names work
 
-        known : any (unknownName (s .sheet)) names ≡ false → Each (Known (s .sheet)) names
-        known e = each-weaker (λ name. unknownName (s .sheet) name ≡ false) (Known (s .sheet)) (λ name. leb-false (s .sheet .count) (placeOf (s .sheet) name)) names (each-any-false (unknownName (s .sheet)) names e)
-
-        go : (b : Bool) → any (unknownName (s .sheet)) names ≡ b → outcome (s .sheet) s (Line c line) (cond b 16 (cond (twice js) 21 0))
-            ≡ cond b (replyAlone s c m 16) (cond (namedTwice names) (replyAlone s c m 21) (informed s c m (map (λ name. f (placeOf (s .sheet) name)) names)))
-        go true e = alone 16 (omega arith)
-        go false e = rw (places-twice (s .sheet) names (known e)) (once (namedTwice names))
-
--- The two requests.
+-- The three requests.
 
 list-told : AnswersNames SensorList sensorOn
 unfolding lineDeclined countFits argumentsDeclined askedPlaces listed answer
-list-told s c line lent m q list e = told s c line lent SensorList m q (split list) (λ j. sensorInform (m .id) (sensorOf (s .sheet) j)) (rw e) (rw e)
+list-told s c line lent m q list e = told s c line lent SensorList m q (λ j. sensorInform (m .id) (sensorOf (s .sheet) j)) (split list) (rw e) (rw e)
 
 value-told : AnswersNames SensorValue valueOn
 unfolding lineDeclined countFits argumentsDeclined askedPlaces listed answer
-value-told s c line lent m q list e = told s c line lent SensorValue m q (split list) (valueInform (m .id) s (s .sheet)) (rw e) (rw e)
+value-told s c line lent m q list e = told s c line lent SensorValue m q (valueInform (m .id) s (s .sheet)) (split list) (rw e) (rw e)
+
+sampling-alike : (s : State) (c : ℕ) (line lent : List ℕ) (m : Message) → Received s c line lent SensorSampling m → (list : List ℕ) (more : List (List ℕ)) → m .args ≡ list ∷ more
+    → DeclinesAlike s c line lent m (split list)
+unfolding lineDeclined countFits argumentsDeclined samplingDeclined listed
+sampling-alike s c line lent m q list more e = alike s c line lent SensorSampling m q (split list) _ (cond-false (not (leb 1 (length (m .args)))) 15 (samplingDeclined (s .sheet) m) (ap not some)) (rw e)
+  where
+    some : leb 1 (length (m .args)) ≡ true
+    some = rw e (le-leb 1 (length (list ∷ more)) (omega arith))
 
 -- one name, and a list of one
 one-told : (s : State) (c : ℕ) (m : Message) (inform : List ℕ → Message) (name : List ℕ) → has (code ",") name ≡ false
@@ -129,4 +144,5 @@ several-names = record {
   sensor-value = value-told;
   sensor-list-of-one = λ s c line lent m q name e h. list-told s c line lent m q name e ∙ one-told s c m (sensorOn s m) name h;
   sensor-value-of-one = λ s c line lent m q name e h. value-told s c line lent m q name e ∙ one-told s c m (valueOn s m) name h;
+  sensor-sampling = sampling-alike;
 }

@@ -11,7 +11,7 @@ use Rattle.message.specs.Delivery.{to}
 use Rattle.machine.specs.declared.Sheet.{Sheet}
 use Rattle.machine.specs.declared.State.{State}
 use Rattle.machine.specs.declared.Request.{Request}
-use Rattle.machine.specs.declared.Request.the-variants.{SensorList, SensorValue}
+use Rattle.machine.specs.declared.Request.the-variants.{SensorList, SensorSampling, SensorValue}
 use Rattle.machine.specs.Places.{any, has}
 use Rattle.machine.specs.Sheet.{sensorOf, placeOf, notOnSheet}
 use Rattle.machine.specs.State.{connected}
@@ -76,8 +76,15 @@ abbrev pub AnswersName : Request → (State → Message → List ℕ → Message
 AnswersName r inform = (s : State) (c : ℕ) (line lent : List ℕ) (m : Message) → Received s c line lent r m → (name : List ℕ) → m .args ≡ name ∷ []
     → has (code ",") name ≡ false → step s (callOf (Line c line) lent) ≡ nameAnswered s c m (inform s m) name
 
+-- "as `sensor-sampling` does": a list with a name that is unknown or stands twice is declined alike there, whatever stands behind it
+pub record DeclinesAlike (s : State) (c : ℕ) (line lent : List ℕ) (m : Message) (names : List (List ℕ)) : Type 0 where
+  pub unknown : any (unknownName (s .sheet)) names ≡ true → step s (callOf (Line c line) lent) ≡ replyAlone s c m 16
+  pub named-twice : any (unknownName (s .sheet)) names ≡ false → namedTwice names ≡ true → step s (callOf (Line c line) lent) ≡ replyAlone s c m 21
+
 pub record SeveralNames : Type 0 where
   pub sensor-list : AnswersNames SensorList sensorOn
   pub sensor-value : AnswersNames SensorValue valueOn
   pub sensor-list-of-one : AnswersName SensorList sensorOn
   pub sensor-value-of-one : AnswersName SensorValue valueOn
+  pub sensor-sampling : (s : State) (c : ℕ) (line lent : List ℕ) (m : Message) → Received s c line lent SensorSampling m → (list : List ℕ) (more : List (List ℕ))
+      → m .args ≡ list ∷ more → DeclinesAlike s c line lent m (split list)
