@@ -4,7 +4,7 @@ use Prim.Native.Char.{code}
 use native.Mathlib.Omega.{arith}
 use mathlib.Core.Path.{_≡_, refl, ap, sym, _∙_}
 use mathlib.Core.Bool.{Bool, true, false, cond, not, _||_}
-use mathlib.Core.List.{List, [], _∷_, map, map-map}
+use mathlib.Core.List.{List, [], _∷_, _++_, map, map-map}
 use lib.Dec.{eqb, leb}
 use lib.ListN.{length}
 use borrow.Author.Tests.{le-leb, le-ltb, leb-false, eq-eqb, eqb-true}
@@ -21,10 +21,11 @@ use Rattle.machine.specs.Messages.{sensorInform, valueInform, countedAns
 use Rattle.machine.specs.Requests.{Asks, split, before, listed, askedPlaces, answer, sendsOnly}
 use Rattle.machine.specs.Declined.{Line, callOf, declined, actionDeclined, clientDeclined, lineDeclined, lineRefusal, refusal, countFits, argumentsDeclined, placesDeclined, samplingDeclined}
 use Rattle.machine.specs.Machine.{done, left, outcome, perform, lineWork, step}
-use Rattle.machine.specs.SeveralNames.{unknownName, namedTwice, replyAlone, namesAnswered, nameAnswered, informed, sensorOn, valueOn, Received, AnswersNames, DeclinesAlike, SeveralNames}
+use Rattle.machine.specs.SeveralNames.{commaList, unknownName, namedTwice, replyAlone, namesAnswered, nameAnswered, informed, sensorOn, valueOn, Received, AnswersNames, DeclinesAlike, SeveralNames}
 use Rattle.machine.proofs.TestLaws.{test-same, or-false, cond-false, eqb-sym}
 use Rattle.machine.proofs.PlacesLaws.{each-any-false, each-weaker}
 use Rattle.machine.proofs.SheetLaws.{name-of-place}
+use Rattle.machine.proofs.StepLaws.{own-rows}
 
 -- a test of what stands for the elements
 any-map : {A B : Type 0} (f : B → Bool) (g : A → B) (xs : List A) → any f (map g xs) ≡ any (λ x. f (g x)) xs
@@ -66,18 +67,32 @@ module _ (sheet : Sheet) where
       go true e = refl
       go false e = rw (places-twice names (known e))
 
--- a text without a comma is one name
-split-one : (name : List ℕ) → has (code ",") name ≡ false → split name ≡ name ∷ []
+-- A text without a comma is one name; behind it a comma begins the next.
+
+abbrev Plain : List ℕ → Type 0
+Plain t = has (code ",") t ≡ false
+
+plain-byte : (b : ℕ) (t : List ℕ) → Plain (b ∷ t) → (eqb b (code ",") ≡ false) × Plain t
 unfolding has any
+plain-byte b t h = let q = or-false (eqb (code ",") b) (any (eqb (code ",")) t) h in (eqb-sym b (code ",") ∙ q .0, q .1)
+
+split-one : (name : List ℕ) → Plain name → split name ≡ name ∷ []
 split-one [] h = refl
-split-one (b ∷ name) h = let q = or-false (eqb (code ",") b) (any (eqb (code ",")) name) h in
-    rw (eqb-sym b (code ","), q .0) (ap (before b) (split-one name (q .1)))
+split-one (b ∷ name) h = let q = plain-byte b name h in rw (q .0) (ap (before b) (split-one name (q .1)))
+
+split-more : (name rest : List ℕ) → Plain name → split (name ++ (code "," ∷ rest)) ≡ name ∷ split rest
+split-more [] rest h = refl
+split-more (b ∷ name) rest h = let q = plain-byte b name h in rw (q .0) (ap (before b) (split-more name rest (q .1)))
+
+cut-names : (name : List ℕ) (names : List (List ℕ)) → Each Plain (name ∷ names) → split (commaList name names) ≡ name ∷ names
+cut-names name [] h = split-one name (h .0)
+cut-names name (next ∷ names) h = split-more name (commaList next names) (h .0) ∙ ap (λ ns. name ∷ ns) (cut-names next names (h .1))
 
 -- A line that asks for the sensors of a list.
 module _ (s : State) (c : ℕ) (line lent : List ℕ) (r : Request) (m : Message) (q : Received s c line lent r m) where
   row-is : declined (s .sheet) s (callOf (Line c line) lent) ≡ lineDeclined (s .sheet) (Asks r m)
-  unfolding declined actionDeclined clientDeclined
-  row-is = rw (q .in-range, le-ltb (length lent) 65536 (q .room), q .running, le-ltb 7 c (omega (arith, q .client)), q .there, q .asks)
+  unfolding actionDeclined clientDeclined
+  row-is = own-rows s (callOf (Line c line) lent) (q .in-range) (q .room) (q .running) ∙ rw (le-ltb 7 c (omega (arith, q .client)), q .there, q .asks)
 
   -- declined with 16 or 21
   alone : (n : ℕ) → 12 ≤ n → left s n (Line c line) ≡ replyAlone s c m n
@@ -140,6 +155,7 @@ one-told s c m inform name h = ap (namesAnswered s c m inform) (split-one name h
 
 pub several-names : SeveralNames
 several-names = record {
+  cut = cut-names;
   sensor-list = list-told;
   sensor-value = value-told;
   sensor-list-of-one = λ s c line lent m q name e h. list-told s c line lent m q name e ∙ one-told s c m (sensorOn s m) name h;

@@ -53,10 +53,15 @@ accepted s call e =
     let c = passed (s .halted) 3 (actionDeclined (s .sheet) s (call .action)) (omega arith) (b .1) in
     record { in-range = not-false (inRange s) (a .0); room = ltb-false (length (call .lent)) 65536 (b .0); running = c .0; fits = c .1 }
 
+-- behind rows 1, 2 and 3 stand the call's own
+pub own-rows : (s : State) (call : Call) → inRange s ≡ true → 65536 ≤ length (call .lent) → s .halted ≡ false
+    → declined (s .sheet) s call ≡ actionDeclined (s .sheet) s (call .action)
+unfolding declined
+own-rows s call i r h = rw (i, le-ltb (length (call .lent)) 65536 r, h)
+
 -- the other way: such a call is carried out
 passes : (s : State) (call : Call) → Accepted s call → declined (s .sheet) s call ≡ 0
-unfolding declined
-passes s call a = rw (a .fits, a .in-range, le-ltb (length (call .lent)) 65536 (a .room), a .running)
+passes s call a = own-rows s call (a .in-range) (a .room) (a .running) ∙ a .fits
 
 pub carried-out : (s : State) (call : Call) → Accepted s call → step s call ≡ done (perform (s .sheet) s (call .action))
 unfolding outcome

@@ -12,7 +12,7 @@ use Rattle.machine.specs.declared.Sheet.{Sheet}
 use Rattle.machine.specs.declared.State.{State}
 use Rattle.machine.specs.declared.Request.{Request}
 use Rattle.machine.specs.declared.Request.the-variants.{SensorList, SensorSampling, SensorValue}
-use Rattle.machine.specs.Places.{any, has}
+use Rattle.machine.specs.Places.{any, has, Each}
 use Rattle.machine.specs.Sheet.{sensorOf, placeOf, notOnSheet}
 use Rattle.machine.specs.State.{connected}
 use Rattle.machine.specs.Range.{inRange}
@@ -20,6 +20,11 @@ use Rattle.machine.specs.Messages.{sensorInform, valueInform, countReply
 use Rattle.machine.specs.Requests.{Asks, asked, split}
 use Rattle.machine.specs.Declined.{Line, callOf}
 use Rattle.machine.specs.Machine.{Effect, step}
+
+-- names with a comma between each two
+abbrev pub commaList : List ℕ → List (List ℕ) → List ℕ
+commaList name [] = name
+commaList name (next ∷ names) = name ++ (code "," ∷ commaList next names)
 
 -- "one name is unknown"
 abbrev pub unknownName : Sheet → List ℕ → Bool
@@ -81,7 +86,9 @@ pub record DeclinesAlike (s : State) (c : ℕ) (line lent : List ℕ) (m : Messa
   pub unknown : any (unknownName (s .sheet)) names ≡ true → step s (callOf (Line c line) lent) ≡ replyAlone s c m 16
   pub named-twice : any (unknownName (s .sheet)) names ≡ false → namedTwice names ≡ true → step s (callOf (Line c line) lent) ≡ replyAlone s c m 21
 
+-- `cut`: the names of an argument are what stands between its commas, empty ones too, so the rest is said of these
 pub record SeveralNames : Type 0 where
+  pub cut : (name : List ℕ) (names : List (List ℕ)) → Each (λ t. has (code ",") t ≡ false) (name ∷ names) → split (commaList name names) ≡ name ∷ names
   pub sensor-list : AnswersNames SensorList sensorOn
   pub sensor-value : AnswersNames SensorValue valueOn
   pub sensor-list-of-one : AnswersName SensorList sensorOn
