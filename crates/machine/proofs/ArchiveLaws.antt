@@ -3,7 +3,7 @@ use Prim.Native.Nat.{ℕ, _+_}
 use Prim.Native.Char.{code}
 use mathlib.Core.Path.{_≡_, refl, ap, ap₂, sym, _∙_}
 use mathlib.Core.Bool.{Bool, true, false, cond, not, _&&_}
-use mathlib.Core.List.{List, [], _∷_, _++_, map}
+use mathlib.Core.List.{List, [], _∷_, _++_, map, map-append}
 use mathlib.Core.Option.{Option, none, some}
 use lib.Dec.{eqb, ltb}
 use lib.ListN.{length, getD, drop}
@@ -28,7 +28,7 @@ use Rattle.machine.proofs.ListLaws.{sent-packets}
 
 -- Lines.
 
-lines-packed : (a : ℕ) (ds : List Delivery) → linesTo a (map packet ds) ≡ map line (sentTo a ds)
+pub lines-packed : (a : ℕ) (ds : List Delivery) → linesTo a (map packet ds) ≡ map line (sentTo a ds)
 unfolding linesTo sentTo
 lines-packed a [] = refl
 lines-packed a (d ∷ ds) = go (eqb (d .client) a) (lines-packed a ds)
@@ -38,23 +38,19 @@ lines-packed a (d ∷ ds) = go (eqb (d .client) a) (lines-packed a ds)
     go true h = ap (λ l. line (d .message) ∷ l) h
     go false h = h
 
-lines-append : (xs ys : List Message) → map line (xs ++ ys) ≡ map line xs ++ map line ys
-lines-append [] ys = refl
-lines-append (x ∷ xs) ys = ap (λ l. line x ∷ l) (lines-append xs ys)
-
 module _ (bytes : List ℕ) (a : ℕ) where
   pub lines-are : (h : List Call) → linesOf bytes a h ≡ map line (messagesOf bytes a h)
   unfolding linesOf messagesOf
   lines-are [] = refl
   lines-are (call ∷ h) = ap₂ _++_ (go (connects bytes a h call) (lines-are h)) (ap (linesTo a) (sent-packets bytes a h call) ∙ lines-packed a (step (after bytes h) call .sent))
-      ∙ sym (lines-append (cond (connects bytes a h call) [] (messagesOf bytes a h)) (sentTo a (step (after bytes h) call .sent)))
+      ∙ sym (map-append line (cond (connects bytes a h call) [] (messagesOf bytes a h)) (sentTo a (step (after bytes h) call .sent)))
     where
       go : (b : Bool) → linesOf bytes a h ≡ map line (messagesOf bytes a h) → cond b [] (linesOf bytes a h) ≡ map line (cond b [] (messagesOf bytes a h))
       go true ih = refl
       go false ih = ih
 
 -- what holds of every message that is sent holds of those to a client
-each-to : (P : Message → Type 0) (a : ℕ) (ds : List Delivery) → Each (λ (d : Delivery). P (d .message)) ds → Each P (sentTo a ds)
+pub each-to : (P : Message → Type 0) (a : ℕ) (ds : List Delivery) → Each (λ (d : Delivery). P (d .message)) ds → Each P (sentTo a ds)
 unfolding sentTo
 each-to P a [] h = tt
 each-to P a (d ∷ ds) h = cond-either (Each P) (eqb (d .client) a) (d .message ∷ sentTo a ds) (sentTo a ds) (h .0, each-to P a ds (h .1)) (each-to P a ds (h .1))

@@ -49,4 +49,9 @@ pub mod TwoDevices
 pub mod Connectable
 pub mod StartsAtWarn
 pub mod SeveralNames
+pub mod WatchLaws
+pub mod BesideLaws
+pub mod SharedCalls
+pub mod OthersCalls
+pub mod Others
 pub mod Edges

@@ -3,12 +3,12 @@ use Prim.Native.Nat.{ℕ, zero, suc, _+_, _*_, _≤_, _<_}
 use native.Mathlib.Omega.{arith}
 use mathlib.Core.Path.{_≡_, refl, ap, sym, _∙_}
 use mathlib.Core.Bool.{Bool, true, false, cond, true≢false, _||_}
-use mathlib.Core.List.{List, [], _∷_, _++_, map}
+use mathlib.Core.List.{List, [], _∷_, _++_, map, append-nil, reverse, reverse-cons}
 use lib.Dec.{eqb, ltb}
 use lib.ListN.{length, getD, replicate, length-append, List·getD-append}
 use lib.Seq.{getD-append-seam}
 use borrow.Author.Tests.{ltb-true, ltb-false, eqb-true}
-use Rattle.machine.specs.Places.{tabulate, gather, oneIf, any, allBelow, firstBelow, has, Each}
+use Rattle.machine.specs.Places.{tabulate, gather, oneIf, any, only, allBelow, firstBelow, has, Each}
 use Rattle.machine.proofs.TestLaws.{and-true, and-in, or-false, or-true, or-in, test-same, eqb-refl}
 use Rattle.output.specs.Text.{all}
 
@@ -56,6 +56,36 @@ module _ {A : Type 0} where
   pub each-weaker : (P Q : A → Type 0) → ((x : A) → P x → Q x) → (xs : List A) → Each P xs → Each Q xs
   each-weaker P Q f [] h = tt
   each-weaker P Q f (x ∷ xs) h = (f x (h .0), each-weaker P Q f xs (h .1))
+
+  pub only-append : (f : A → Bool) (xs ys : List A) → only f (xs ++ ys) ≡ only f xs ++ only f ys
+  unfolding only
+  only-append f [] ys = refl
+  only-append f (x ∷ xs) ys = go (f x) (only-append f xs ys)
+    where
+      go : (b : Bool) → only f (xs ++ ys) ≡ only f xs ++ only f ys → cond b (x ∷ only f (xs ++ ys)) (only f (xs ++ ys)) ≡ cond b (x ∷ only f xs) (only f xs) ++ only f ys
+      go true h = ap (λ l. x ∷ l) h
+      go false h = h
+
+  -- a narrower test after a wider one
+  pub only-within : (f g : A → Bool) → ((x : A) → f x ≡ true → g x ≡ true) → (xs : List A) → only f (only g xs) ≡ only f xs
+  unfolding only
+  only-within f g w [] = refl
+  only-within f g w (x ∷ xs) = go (g x) refl (f x) refl (only-within f g w xs)
+    where
+      go : (b : Bool) → g x ≡ b → (c : Bool) → f x ≡ c → only f (only g xs) ≡ only f xs → only f (cond b (x ∷ only g xs) (only g xs)) ≡ cond c (x ∷ only f xs) (only f xs)
+      go true p c q h = rw q (ap (λ l. cond c (x ∷ l) l) h)
+      go false p true q h = absurd (true≢false (sym (w x q) ∙ p))
+      go false p false q h = h
+
+  -- from the last to the first
+  pub only-reverse : (f : A → Bool) (xs : List A) → only f (reverse xs) ≡ reverse (only f xs)
+  unfolding only
+  only-reverse f [] = refl
+  only-reverse f (x ∷ xs) = ap (only f) (reverse-cons x xs) ∙ (only-append f (reverse xs) (x ∷ []) ∙ go (f x) (only-reverse f xs))
+    where
+      go : (b : Bool) → only f (reverse xs) ≡ reverse (only f xs) → only f (reverse xs) ++ cond b (x ∷ []) [] ≡ reverse (cond b (x ∷ only f xs) (only f xs))
+      go true h = ap (λ l. l ++ (x ∷ [])) h ∙ sym (reverse-cons x (only f xs))
+      go false h = append-nil (only f (reverse xs)) ∙ h
 
   pub each-any-false : (f : A → Bool) (xs : List A) → any f xs ≡ false → Each (λ x. f x ≡ false) xs
   unfolding any

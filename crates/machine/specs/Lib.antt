@@ -12,4 +12,5 @@ pub mod Reader
 pub mod TwoDevices
 pub mod Claims
 pub mod SeveralNames
+pub mod Others
 pub mod Edges

@@ -25,6 +25,11 @@ module _ {A : Type 0} where
   any f [] = false
   any f (x ∷ xs) = f x || any f xs
 
+  -- those that pass the test, in order
+  unfoldable pub only : (A → Bool) → List A → List A
+  only f [] = []
+  only f (x ∷ xs) = cond (f x) (x ∷ only f xs) (only f xs)
+
 -- the test holds at each place below n
 unfoldable pub allBelow : (ℕ → Bool) → ℕ → Bool
 allBelow f zero = true

@@ -1,0 +1,192 @@
+-- What a client is told is what it is told by a device that was given that client's calls, readings and ticks alone.
+use Prim.Native.Nat.{ℕ, _≤_, _<_}
+use native.Mathlib.Omega.{arith}
+use mathlib.Core.Path.{_≡_, refl, ap, ap₂, sym, _∙_, subst}
+use mathlib.Core.Bool.{Bool, true, false, cond, not, _&&_, _||_, true≢false}
+use mathlib.Core.List.{List, [], _∷_, _++_, map, append-nil, reverse}
+use mathlib.Mathlib.Data.List.Basic.{map-reverseAux}
+use lib.Dec.{eqb, ltb}
+use lib.ListN.{length, replicate, length-replicate}
+use borrow.Author.Tests.{eqb-true, ltb-true, ltb-false}
+use Rattle.output.specs.Text.{text, same}
+use Rattle.output.proofs.TextLaws.{same-true}
+use Rattle.message.specs.Message.{line}
+use Rattle.message.specs.Delivery.{Delivery}
+use Rattle.line.specs.Line.{Parse, malformed, message, parse}
+use Rattle.machine.specs.declared.State.{State}
+use Rattle.machine.specs.declared.Request.the-variants.{Halt, Restart}
+use Rattle.machine.specs.Places.{only, isZero}
+use Rattle.machine.specs.Range.{inRange}
+use Rattle.machine.specs.Declined.{Action, Connect, Disconnect, Tick, Reading, Log, Line, Call, callOf}
+use Rattle.machine.specs.Machine.{step}
+use Rattle.machine.specs.TwoDevices.{after, packetsOf, endsAll, withoutEnd}
+use Rattle.machine.specs.Others.{isShared, sharedIn, SharedCall, sharedOf, sharedCalls, othersEnd, OneDispatcher, isNamedAs, linesEver, ofSensors, ofOthers, AlikeFor, asksEnd, OthersApart, OthersReach}
+use Rattle.machine.proofs.TestLaws.{or-false, or-true}
+use Rattle.machine.proofs.PlacesLaws.{each-weaker, only-within, only-reverse}
+use Rattle.machine.proofs.RangeLaws.{range-out}
+use Rattle.machine.proofs.AnsweredLaws.{request-is}
+use Rattle.machine.proofs.NextLaws.{endsConnections}
+use Rattle.machine.proofs.GrantedLaws.{ends-is}
+use Rattle.machine.proofs.ListLaws.{sent-packets}
+use Rattle.machine.proofs.Sent.{sent-to-clients}
+use Rattle.machine.proofs.KeptInRange.{after-in-range}
+use Rattle.machine.proofs.WatchLaws.{own, toldTo, Aside, aside-told, named, toldEver, ever-told}
+use Rattle.machine.proofs.BesideLaws.{alike-refl, alike-sym, alike-trans, by-beside}
+use Rattle.machine.proofs.SharedCalls.{step-alike}
+use Rattle.machine.proofs.OthersCalls.{step-leaves}
+
+-- "answered `ok`" is accepted
+ends-by-number : (bytes : List ℕ) (h : List Call) (call : Call) → endsAll (call .action) (packetsOf bytes h call) ≡ (isZero (step (after bytes h) call .number) && endsConnections (call .action))
+ends-by-number bytes h call = ap (endsAll (call .action)) (sent-packets bytes 0 h call) ∙ ends-is (after bytes h) (call .action) (call .lent)
+
+asks-end-is : (action : Action) → endsConnections action ≡ asksEnd action
+asks-end-is (Connect c address) = refl
+asks-end-is (Disconnect c) = refl
+asks-end-is (Tick t) = refl
+asks-end-is (Reading j r) = refl
+asks-end-is (Log level logger said) = refl
+asks-end-is (Line c line) = sym (ap₂ _||_ (request-is Halt line) (request-is Restart line))
+
+-- The shared calls alone.
+
+-- an output that is too short, or not
+unfoldable lentFor : Bool → List ℕ
+lentFor true = []
+lentFor false = replicate 65536 0
+
+lent-short : (b : Bool) → ltb (length (lentFor b)) 65536 ≡ b
+unfolding lentFor
+lent-short true = refl
+lent-short false = ap (λ n. ltb n 65536) (length-replicate {A = ℕ} 65536 0)
+
+-- shared calls, each with such an output
+unfoldable alone : List SharedCall → List Call
+alone [] = []
+alone (x ∷ xs) = callOf (x .action) (lentFor (x .short)) ∷ alone xs
+
+module _ (bytes : List ℕ) (a : ℕ) (ha : a < 8) where
+  -- the device with all calls, and the one with the shared calls alone
+  record Follows (h k : List Call) : Type 0 where
+    pub states : AlikeFor a (after bytes h) (after bytes k)
+    pub told : toldEver bytes a h ≡ toldEver bytes a k
+
+  shared-step : (call : Call) (h k : List Call) → isShared a (call .action) ≡ true → Follows h k → Follows (call ∷ h) (callOf (call .action) (lentFor (ltb (length (call .lent)) 65536)) ∷ k)
+  unfolding after toldEver
+  shared-step call h k e f = record { states = both .0; told = ap₂ _++_ (f .told) (both .1) }
+    where
+      other : Call
+      other = callOf (call .action) (lentFor (ltb (length (call .lent)) 65536))
+
+      Both : State → Type 0
+      Both t = AlikeFor a (step (after bytes h) call .next) (step t other .next) × (toldTo a (step (after bytes h) call .sent) ≡ toldTo a (step t other .sent))
+
+      both : Both (after bytes k)
+      both = by-beside (λ t. inRange t ≡ true → Both t) a (after bytes h) (after bytes k) (f .states)
+          (λ l ks ps g r. step-alike a ha (after bytes h) (range-out (after bytes h) (after-in-range bytes h)) l ks ps g (call .action) e (call .lent) (other .lent)
+          (sym (lent-short (ltb (length (call .lent)) 65536))) (after-in-range bytes h) r)
+          (after-in-range bytes k)
+
+  other-step : (call : Call) (h k : List Call) → isShared a (call .action) ≡ false → endsAll (call .action) (packetsOf bytes h call) ≡ false → Follows h k → Follows (call ∷ h) k
+  unfolding after toldEver
+  other-step call h k e z f = record {
+    states = alike-trans (alike-sym (left .0)) (f .states);
+    told = ap (λ ms. toldEver bytes a h ++ ms) (left .1) ∙ (append-nil (toldEver bytes a h) ∙ f .told);
+  }
+    where
+      left : AlikeFor a (after bytes h) (step (after bytes h) call .next) × (toldTo a (step (after bytes h) call .sent) ≡ [])
+      left = step-leaves a ha (after bytes h) call e (sym (ends-by-number bytes h call) ∙ z)
+
+  follows : (h : List Call) → othersEnd bytes a h ≡ false → Follows h (alone (sharedCalls a h))
+  unfolding othersEnd only alone
+  follows [] z = record { states = alike-refl a (after bytes []); told = refl }
+  follows (call ∷ h) z = go (isShared a (call .action)) refl (or-false (not (isShared a (call .action)) && endsAll (call .action) (packetsOf bytes h call)) (othersEnd bytes a h) z) (follows h)
+    where
+      go : (b : Bool) → isShared a (call .action) ≡ b → ((not b && endsAll (call .action) (packetsOf bytes h call)) ≡ false) × (othersEnd bytes a h ≡ false)
+          → (othersEnd bytes a h ≡ false → Follows h (alone (sharedCalls a h))) → Follows (call ∷ h) (alone (map sharedOf (cond b (call ∷ sharedIn a h) (sharedIn a h))))
+      go true e q ih = shared-step call h (alone (sharedCalls a h)) e (ih (q .1))
+      go false e q ih = other-step call h (alone (sharedCalls a h)) e (q .0) (ih (q .1))
+
+-- Two lists.
+
+shared-reverse : (a : ℕ) (calls : List Call) → sharedCalls a (reverse calls) ≡ reverse (sharedCalls a calls)
+shared-reverse a calls = ap (map sharedOf) (only-reverse (λ (call : Call). isShared a (call .action)) calls) ∙ map-reverseAux sharedOf (sharedIn a calls) []
+
+module _ (bytes : List ℕ) (a : ℕ) (calls others : List Call) (g : OneDispatcher bytes a calls others) where
+  -- both meet in the device with the shared calls alone
+  same-reverse : sharedCalls a (reverse calls) ≡ sharedCalls a (reverse others)
+  same-reverse = shared-reverse a calls ∙ (ap reverse (g .same-calls) ∙ sym (shared-reverse a others))
+
+  same-after : a < 8 → AlikeFor a (after bytes (reverse calls)) (after bytes (reverse others))
+  same-after ha = alike-trans (follows bytes a ha (reverse calls) (g .none-ends) .states)
+      (subst (λ xs. AlikeFor a (after bytes (alone xs)) (after bytes (reverse others))) (sym same-reverse) (alike-sym (follows bytes a ha (reverse others) (g .none-ends-there) .states)))
+
+  same-told : a < 8 → toldEver bytes a (reverse calls) ≡ toldEver bytes a (reverse others)
+  same-told ha = follows bytes a ha (reverse calls) (g .none-ends) .told
+      ∙ (ap (λ xs. toldEver bytes a (alone xs)) same-reverse ∙ sym (follows bytes a ha (reverse others) (g .none-ends-there) .told))
+
+-- a number that is no client's is told nothing
+no-client : (bytes : List ℕ) (a : ℕ) → 8 ≤ a → (h : List Call) → toldEver bytes a h ≡ []
+unfolding toldEver
+no-client bytes a l [] = refl
+no-client bytes a l (call ∷ h) = ap₂ _++_ (no-client bytes a l h) (aside-told a (step (after bytes h) call .sent)
+    (each-weaker (λ (d : Delivery). d .client < 8) (Aside a) (λ d k. other (d .client) (own (d .message)) k (eqb (d .client) a) refl) (step (after bytes h) call .sent) (sent-to-clients (after bytes h) call)))
+  where
+    other : (c : ℕ) (o : Bool) → c < 8 → (b : Bool) → eqb c a ≡ b → (b && o) ≡ false
+    other c o k true e = absurd (omega (arith, eqb-true c a e))
+    other c o k false e = refl
+
+told-alike : (bytes : List ℕ) (a : ℕ) (calls others : List Call) → OneDispatcher bytes a calls others → toldEver bytes a (reverse calls) ≡ toldEver bytes a (reverse others)
+told-alike bytes a calls others g = go (ltb a 8) refl
+  where
+    go : (b : Bool) → ltb a 8 ≡ b → toldEver bytes a (reverse calls) ≡ toldEver bytes a (reverse others)
+    go true l = same-told bytes a calls others g (ltb-true a 8 l)
+    go false l = no-client bytes a (ltb-false a 8 l) (reverse calls) ∙ sym (no-client bytes a (ltb-false a 8 l) (reverse others))
+
+-- A list, and that list without the others.
+
+module _ (bytes : List ℕ) (a : ℕ) where
+  -- among shared calls none is another's
+  none-other : (h : List Call) → othersEnd bytes a (sharedIn a h) ≡ false
+  unfolding othersEnd only
+  none-other [] = refl
+  none-other (call ∷ h) = go (isShared a (call .action)) refl (none-other h)
+    where
+      go : (b : Bool) → isShared a (call .action) ≡ b → othersEnd bytes a (sharedIn a h) ≡ false → othersEnd bytes a (cond b (call ∷ sharedIn a h) (sharedIn a h)) ≡ false
+      go true e ih = rw e ih
+      go false e ih = ih
+
+  without-others : (calls : List Call) → othersEnd bytes a (reverse calls) ≡ false → OneDispatcher bytes a calls (sharedIn a calls)
+  without-others calls z = record {
+    same-calls = ap (map sharedOf) (sym (only-within (λ (call : Call). isShared a (call .action)) (λ (call : Call). isShared a (call .action)) (λ call e. e) calls));
+    none-ends = z;
+    none-ends-there = ap (othersEnd bytes a) (sym (only-reverse (λ (call : Call). isShared a (call .action)) calls)) ∙ none-other (reverse calls);
+  }
+
+-- The claims.
+
+pub others-reach : OthersReach
+others-reach = record {
+  same-lines = λ bytes a calls others g. ever-told bytes a (reverse calls) ∙ (ap (map line) (told-alike bytes a calls others g) ∙ sym (ever-told bytes a (reverse others)));
+  same-state = λ bytes a ha calls others g. same-after bytes a calls others g ha;
+  accepted = λ bytes h call. ends-by-number bytes h call ∙ ap (λ b. isZero (step (after bytes h) call .number) && b) (asks-end-is (call .action));
+  alone = without-others;
+}
+
+-- in a line on sensors others do not show
+sensors-own : (name : List ℕ) → ofSensors name ≡ true → not (ofOthers name) ≡ true
+sensors-own name e = or-true (not (ofOthers name) ≡ true) (same name (text "sensor-status")) _ e (is (text "sensor-status") refl)
+    (λ e. or-true (not (ofOthers name) ≡ true) (same name (text "sensor-sampling")) _ e (is (text "sensor-sampling") refl)
+    (λ e. or-true (not (ofOthers name) ≡ true) (same name (text "sensor-value")) _ e (is (text "sensor-value") refl) (is (text "sensor-list") refl)))
+  where
+    is : (word : List ℕ) → not (ofOthers word) ≡ true → same name word ≡ true → not (ofOthers name) ≡ true
+    is word h e = ap (λ n. not (ofOthers n)) (same-true name word e) ∙ h
+
+line-own : (p : Parse) → isNamedAs ofSensors p ≡ true → isNamedAs (λ name. not (ofOthers name)) p ≡ true
+line-own malformed e = absurd (true≢false (sym e))
+line-own (message m) e = sensors-own (m .name) e
+
+pub others-apart : OthersApart
+others-apart bytes a calls others g = sym (within calls) ∙ (ap (only (named ofSensors)) (others-reach .same-lines bytes a calls others g) ∙ within others)
+  where
+    within : (calls : List Call) → only (named ofSensors) (only (named (λ name. not (ofOthers name))) (linesEver bytes a (reverse calls))) ≡ only (named ofSensors) (linesEver bytes a (reverse calls))
+    within calls = only-within (named ofSensors) (named (λ name. not (ofOthers name))) (λ l e. line-own (parse (withoutEnd l)) e) (linesEver bytes a (reverse calls))

@@ -1,0 +1,119 @@
+-- Document 02, (i), "Others on the line": what one client, the dispatcher's archive, is told of the sensors does not depend on the other clients. `a` is the
+-- dispatcher's client number, `bytes` the sheet. Lists of calls stand first to last; `h` has its latest call first, as in TwoDevices.antt.
+use Prim.Native.Nat.{ℕ, _<_}
+use mathlib.Core.Path.{_≡_}
+use mathlib.Core.Bool.{Bool, true, false, not, _&&_, _||_}
+use mathlib.Core.List.{List, [], _∷_, _++_, map, reverse}
+use lib.Dec.{eqb, ltb}
+use lib.ListN.{length}
+use Rattle.output.specs.Text.{text, same}
+use Rattle.line.specs.Line.{Parse, malformed, message, parse}
+use Rattle.machine.specs.declared.State.{State}
+use Rattle.machine.specs.Places.{only}
+use Rattle.machine.specs.State.{clientOf, pairOf}
+use Rattle.machine.specs.Declined.{Action, Connect, Disconnect, Tick, Reading, Log, Line, Call}
+use Rattle.machine.specs.TwoDevices.{after, returnedZero, packetsOf, endsAll, isRequest, linesTo, withoutEnd}
+
+-- The two lists.
+
+-- "the same dispatcher's calls (all that name its client number), readings and ticks"; a log entry names no client
+abbrev pub isShared : ℕ → Action → Bool
+isShared a (Connect c address) = eqb c a
+isShared a (Disconnect c) = eqb c a
+isShared a (Tick t) = true
+isShared a (Reading j r) = true
+isShared a (Log level logger said) = false
+isShared a (Line c line) = eqb c a
+
+-- these calls of a list, "in the same order"
+abbrev pub sharedIn : ℕ → List Call → List Call
+sharedIn a calls = only (λ (call : Call). isShared a (call .action)) calls
+
+-- what must be the same of such a call: what it asks, and whether its output is too short, row 2; what the output held may differ
+pub record SharedCall : Type 0 where
+  pub action : Action
+  pub short : Bool
+
+abbrev pub sharedOf : Call → SharedCall
+sharedOf call = record { action = call .action; short = ltb (length (call .lent)) 65536 }
+
+abbrev pub sharedCalls : ℕ → List Call → List SharedCall
+sharedCalls a calls = map sharedOf (sharedIn a calls)
+
+-- "No other client .. has a halt or restart accepted": whether one has, by what is "answered `ok`" (`endsAll`)
+unfoldable pub othersEnd : List ℕ → ℕ → List Call → Bool
+othersEnd bytes a [] = false
+othersEnd bytes a (call ∷ h) = (not (isShared a (call .action)) && endsAll (call .action) (packetsOf bytes h call)) || othersEnd bytes a h
+
+-- "Two lists of calls from fresh devices of one sheet": all else in them may differ
+pub record OneDispatcher (bytes : List ℕ) (a : ℕ) (calls others : List Call) : Type 0 where
+  pub same-calls : sharedCalls a calls ≡ sharedCalls a others
+  pub none-ends : othersEnd bytes a (reverse calls) ≡ false
+  pub none-ends-there : othersEnd bytes a (reverse others) ≡ false
+
+-- The dispatcher's lines.
+
+-- all that are delivered to it over the list, in order
+unfoldable pub linesEver : List ℕ → ℕ → List Call → List (List ℕ)
+linesEver bytes a [] = []
+linesEver bytes a (call ∷ h) = linesEver bytes a h ++ linesTo a (packetsOf bytes h call)
+
+-- a line whose message has a name that passes the test
+abbrev pub isNamedAs : (List ℕ → Bool) → Parse → Bool
+isNamedAs is malformed = false
+isNamedAs is (message m) = is (m .name)
+
+-- such lines among all of a list
+abbrev pub linesNamed : (List ℕ → Bool) → List ℕ → ℕ → List Call → List (List ℕ)
+linesNamed is bytes a calls = only (λ l. isNamedAs is (parse (withoutEnd l))) (linesEver bytes a (reverse calls))
+
+-- "the dispatcher's `sensor-status` lines" and "its replies and informs to `sensor-sampling`, `sensor-value` and `sensor-list`", which have the request's name
+abbrev pub ofSensors : List ℕ → Bool
+ofSensors name =
+    same name (text "sensor-status")
+    || (same name (text "sensor-sampling") || (same name (text "sensor-value") || same name (text "sensor-list")))
+
+-- the request: "Then the dispatcher's `sensor-status` lines are equal, as are its replies and informs", all as one sequence, byte for byte
+abbrev pub OthersApart : Type 0
+OthersApart = (bytes : List ℕ) (a : ℕ) (calls others : List Call) → OneDispatcher bytes a calls others
+    → linesNamed ofSensors bytes a calls ≡ linesNamed ofSensors bytes a others
+
+-- How far the others reach.
+
+-- the names of the lines in which others show: `#log`, `#client-connected`, and what answers `client-list` and `log-level`
+abbrev pub ofOthers : List ℕ → Bool
+ofOthers name =
+    same name (text "log")
+    || (same name (text "client-connected") || (same name (text "client-list") || same name (text "log-level")))
+
+-- what two states have alike for client a
+pub record AlikeFor (a : ℕ) (s t : State) : Type 0 where
+  pub sheet-same : s .sheet ≡ t .sheet
+  pub clock-same : s .clock ≡ t .clock
+  pub halted-same : s .halted ≡ t .halted
+  pub readings-same : s .readings ≡ t .readings
+  pub client-same : clientOf s a ≡ clientOf t a
+  pub pair-same : (j : ℕ) → j < 32 → pairOf s a j ≡ pairOf t a j
+
+-- a request to halt or to restart
+abbrev pub asksEnd : Action → Bool
+asksEnd (Connect c address) = false
+asksEnd (Disconnect c) = false
+asksEnd (Tick t) = false
+asksEnd (Reading j r) = false
+asksEnd (Log level logger said) = false
+asksEnd (Line c line) = isRequest (text "halt") (parse line) || isRequest (text "restart") (parse line)
+
+-- `same-lines`: all the dispatcher's lines are equal but those in which others show, as one sequence.
+-- `same-state`: the states that two such lists end with are alike for it; so they are after each shared call, since two such lists that end there are two such lists.
+-- `accepted`: "answered `ok`" is accepted: such a request that returned 0. One that is declined may differ.
+-- `alone`: lists that differ meet the assumption: a list, and that list without all calls of the others, as if the dispatcher were alone on the line.
+pub record OthersReach : Type 0 where
+  pub same-lines : (bytes : List ℕ) (a : ℕ) (calls others : List Call) → OneDispatcher bytes a calls others
+      → linesNamed (λ name. not (ofOthers name)) bytes a calls ≡ linesNamed (λ name. not (ofOthers name)) bytes a others
+  pub same-state : (bytes : List ℕ) (a : ℕ) → a < 8 → (calls others : List Call) → OneDispatcher bytes a calls others
+      → AlikeFor a (after bytes (reverse calls)) (after bytes (reverse others))
+  pub accepted : (bytes : List ℕ) (h : List Call) (call : Call)
+      → endsAll (call .action) (packetsOf bytes h call) ≡ (returnedZero bytes h call && asksEnd (call .action))
+  pub alone : (bytes : List ℕ) (a : ℕ) (calls : List Call) → othersEnd bytes a (reverse calls) ≡ false
+      → OneDispatcher bytes a calls (sharedIn a calls)
