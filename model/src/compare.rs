@@ -9,10 +9,10 @@ use std::io::{self, Read, Write};
 use std::process::{Command, Stdio};
 
 /// A script: its lines without their ends.
-type Script = Vec<Vec<u8>>;
+pub type Script = Vec<Vec<u8>>;
 
 /// How many calls go to the other program in one run, about.
-const BATCH: usize = 30_000;
+pub const BATCH: usize = 30_000;
 
 /// Where two answers differ: the line of the script and both answers.
 struct Difference {
@@ -57,7 +57,7 @@ fn counted_answer(session: &mut Session, call: &Call, tally: &mut Tally) -> Vec<
 }
 
 /// The other program's answers to scripts, one after another.
-fn other_answers(program: &str, scripts: &[&Script]) -> io::Result<(Vec<Vec<u8>>, bool)> {
+pub fn other_answers(program: &str, scripts: &[&Script]) -> io::Result<(Vec<Vec<u8>>, bool)> {
     let mut child = Command::new(program).stdin(Stdio::piped()).stdout(Stdio::piped()).spawn()?;
     let mut input = child.stdin.take().expect("piped");
     let mut text: Vec<u8> = Vec::new();

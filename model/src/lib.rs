@@ -12,6 +12,7 @@ pub mod encode;
 pub mod generate;
 pub mod message;
 pub mod number;
+pub mod others;
 pub mod plan;
 pub mod random;
 pub mod readable;

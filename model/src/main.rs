@@ -1,7 +1,7 @@
 //! The commands of the model.
 
 use model::generate::{self, Profile};
-use model::{compare, console, encode, script, vectors};
+use model::{compare, console, encode, others, script, vectors};
 use std::fs;
 use std::io::{self, BufReader, BufWriter, Read, Write};
 use std::process::ExitCode;
@@ -10,6 +10,7 @@ const USAGE: &str = "usage:
   model answer < SCRIPT > ANSWERS
   model generate SEED CALLS > SCRIPT
   model compare REPLAY FROM TO CALLS
+  model others REPLAY FROM TO CALLS    document 02, (i), on its answers
   model tally FROM TO CALLS
   model encode < READABLE > SCRIPT
   model vectors > SCRIPT
@@ -40,6 +41,9 @@ fn run(words: &[&str]) -> Result<bool, Box<dyn std::error::Error>> {
         }
         ["compare", replay, from, to, calls] => {
             return Ok(compare::compare(replay, from.parse()?..to.parse()?, calls.parse()?)?);
+        }
+        ["others", replay, from, to, calls] => {
+            return Ok(others::compare(replay, from.parse()?..to.parse()?, calls.parse()?)?);
         }
         ["tally", from, to, calls] => {
             print!("{}", compare::tally(from.parse()?..to.parse()?, calls.parse()?).text());

@@ -167,6 +167,19 @@ impl Call {
         }
     }
 
+    /// The length of the lent output, where there is one.
+    pub fn lent_mut(&mut self) -> Option<&mut u64> {
+        match self {
+            Call::Open { .. } => None,
+            Call::Connect { lent, .. }
+            | Call::Disconnect { lent, .. }
+            | Call::Tick { lent, .. }
+            | Call::Reading { lent, .. }
+            | Call::Log { lent, .. }
+            | Call::Line { lent, .. } => Some(lent),
+        }
+    }
+
     /// The call as a line of a script, without its end.
     pub fn text(&self) -> String {
         let verb = self.verb();

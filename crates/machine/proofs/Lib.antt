@@ -46,12 +46,12 @@ pub mod KnownLaws
 pub mod SettledLaws
 pub mod ArchiveLaws
 pub mod TwoDevices
-pub mod Connectable
-pub mod StartsAtWarn
-pub mod SeveralNames
 pub mod WatchLaws
 pub mod BesideLaws
 pub mod SharedCalls
 pub mod OthersCalls
 pub mod Others
+pub mod Connectable
+pub mod StartsAtWarn
+pub mod SeveralNames
 pub mod Edges

@@ -3,7 +3,7 @@ use Prim.Native.Nat.{ℕ, _≤_, _<_}
 use native.Mathlib.Omega.{arith}
 use mathlib.Core.Path.{_≡_, refl, ap, ap₂, sym, _∙_, subst}
 use mathlib.Core.Bool.{Bool, true, false, cond, not, _&&_, _||_, true≢false}
-use mathlib.Core.List.{List, [], _∷_, _++_, map, append-nil, reverse}
+use mathlib.Core.List.{List, [], _∷_, _++_, map, map-append, append-nil, reverse, reverse-append}
 use mathlib.Mathlib.Data.List.Basic.{map-reverseAux}
 use lib.Dec.{eqb, ltb}
 use lib.ListN.{length, replicate, length-replicate}
@@ -19,10 +19,10 @@ use Rattle.machine.specs.Places.{only, isZero}
 use Rattle.machine.specs.Range.{inRange}
 use Rattle.machine.specs.Declined.{Action, Connect, Disconnect, Tick, Reading, Log, Line, Call, callOf}
 use Rattle.machine.specs.Machine.{step}
-use Rattle.machine.specs.TwoDevices.{after, packetsOf, endsAll, withoutEnd}
-use Rattle.machine.specs.Others.{isShared, sharedIn, SharedCall, sharedOf, sharedCalls, othersEnd, OneDispatcher, isNamedAs, linesEver, ofSensors, ofOthers, AlikeFor, asksEnd, OthersApart, OthersReach}
+use Rattle.machine.specs.TwoDevices.{after, returnedZero, packetsOf, endsAll, withoutEnd}
+use Rattle.machine.specs.Others.{isShared, sharedIn, SharedCall, sharedOf, sharedCalls, othersEnd, OneDispatcher, isNamedAs, linesEver, ofSensors, ofOthers, AlikeFor, asksEnd, OthersApart, OthersReach, OthersMet}
 use Rattle.machine.proofs.TestLaws.{or-false, or-true}
-use Rattle.machine.proofs.PlacesLaws.{each-weaker, only-within, only-reverse}
+use Rattle.machine.proofs.PlacesLaws.{each-weaker, only-append, only-within, only-reverse}
 use Rattle.machine.proofs.RangeLaws.{range-out}
 use Rattle.machine.proofs.AnsweredLaws.{request-is}
 use Rattle.machine.proofs.NextLaws.{endsConnections}
@@ -30,7 +30,7 @@ use Rattle.machine.proofs.GrantedLaws.{ends-is}
 use Rattle.machine.proofs.ListLaws.{sent-packets}
 use Rattle.machine.proofs.Sent.{sent-to-clients}
 use Rattle.machine.proofs.KeptInRange.{after-in-range}
-use Rattle.machine.proofs.WatchLaws.{own, toldTo, Aside, aside-told, named, toldEver, ever-told}
+use Rattle.machine.proofs.WatchLaws.{own, toldTo, Aside, aside-told, named, toldEver, ever-none, ever-more, ever-named, ever-told}
 use Rattle.machine.proofs.BesideLaws.{alike-refl, alike-sym, alike-trans, by-beside}
 use Rattle.machine.proofs.SharedCalls.{step-alike}
 use Rattle.machine.proofs.OthersCalls.{step-leaves}
@@ -71,8 +71,8 @@ module _ (bytes : List ℕ) (a : ℕ) (ha : a < 8) where
     pub told : toldEver bytes a h ≡ toldEver bytes a k
 
   shared-step : (call : Call) (h k : List Call) → isShared a (call .action) ≡ true → Follows h k → Follows (call ∷ h) (callOf (call .action) (lentFor (ltb (length (call .lent)) 65536)) ∷ k)
-  unfolding after toldEver
-  shared-step call h k e f = record { states = both .0; told = ap₂ _++_ (f .told) (both .1) }
+  unfolding after
+  shared-step call h k e f = record { states = both .0; told = ever-more bytes a h call ∙ (ap₂ _++_ (f .told) (both .1) ∙ sym (ever-more bytes a k other)) }
     where
       other : Call
       other = callOf (call .action) (lentFor (ltb (length (call .lent)) 65536))
@@ -87,10 +87,10 @@ module _ (bytes : List ℕ) (a : ℕ) (ha : a < 8) where
           (after-in-range bytes k)
 
   other-step : (call : Call) (h k : List Call) → isShared a (call .action) ≡ false → endsAll (call .action) (packetsOf bytes h call) ≡ false → Follows h k → Follows (call ∷ h) k
-  unfolding after toldEver
+  unfolding after
   other-step call h k e z f = record {
     states = alike-trans (alike-sym (left .0)) (f .states);
-    told = ap (λ ms. toldEver bytes a h ++ ms) (left .1) ∙ (append-nil (toldEver bytes a h) ∙ f .told);
+    told = ever-more bytes a h call ∙ (ap (λ ms. toldEver bytes a h ++ ms) (left .1) ∙ (append-nil (toldEver bytes a h) ∙ f .told));
   }
     where
       left : AlikeFor a (after bytes h) (step (after bytes h) call .next) × (toldTo a (step (after bytes h) call .sent) ≡ [])
@@ -111,40 +111,75 @@ module _ (bytes : List ℕ) (a : ℕ) (ha : a < 8) where
 shared-reverse : (a : ℕ) (calls : List Call) → sharedCalls a (reverse calls) ≡ reverse (sharedCalls a calls)
 shared-reverse a calls = ap (map sharedOf) (only-reverse (λ (call : Call). isShared a (call .action)) calls) ∙ map-reverseAux sharedOf (sharedIn a calls) []
 
-module _ (bytes : List ℕ) (a : ℕ) (calls others : List Call) (g : OneDispatcher bytes a calls others) where
+module _ (bytes : List ℕ) (a : ℕ) (one two : List Call) (g : OneDispatcher bytes a one two) where
   -- both meet in the device with the shared calls alone
-  same-reverse : sharedCalls a (reverse calls) ≡ sharedCalls a (reverse others)
-  same-reverse = shared-reverse a calls ∙ (ap reverse (g .same-calls) ∙ sym (shared-reverse a others))
+  same-reverse : sharedCalls a (reverse one) ≡ sharedCalls a (reverse two)
+  same-reverse = shared-reverse a one ∙ (ap reverse (g .same-calls) ∙ sym (shared-reverse a two))
 
-  same-after : a < 8 → AlikeFor a (after bytes (reverse calls)) (after bytes (reverse others))
-  same-after ha = alike-trans (follows bytes a ha (reverse calls) (g .none-ends) .states)
-      (subst (λ xs. AlikeFor a (after bytes (alone xs)) (after bytes (reverse others))) (sym same-reverse) (alike-sym (follows bytes a ha (reverse others) (g .none-ends-there) .states)))
+  same-after : a < 8 → AlikeFor a (after bytes (reverse one)) (after bytes (reverse two))
+  same-after ha = alike-trans (follows bytes a ha (reverse one) (g .none-ends) .states)
+      (subst (λ xs. AlikeFor a (after bytes (alone xs)) (after bytes (reverse two))) (sym same-reverse) (alike-sym (follows bytes a ha (reverse two) (g .none-ends-there) .states)))
 
-  same-told : a < 8 → toldEver bytes a (reverse calls) ≡ toldEver bytes a (reverse others)
-  same-told ha = follows bytes a ha (reverse calls) (g .none-ends) .told
-      ∙ (ap (λ xs. toldEver bytes a (alone xs)) same-reverse ∙ sym (follows bytes a ha (reverse others) (g .none-ends-there) .told))
+  same-told : a < 8 → toldEver bytes a (reverse one) ≡ toldEver bytes a (reverse two)
+  same-told ha = follows bytes a ha (reverse one) (g .none-ends) .told
+      ∙ (ap (λ xs. toldEver bytes a (alone xs)) same-reverse ∙ sym (follows bytes a ha (reverse two) (g .none-ends-there) .told))
 
 -- a number that is no client's is told nothing
 no-client : (bytes : List ℕ) (a : ℕ) → 8 ≤ a → (h : List Call) → toldEver bytes a h ≡ []
-unfolding toldEver
-no-client bytes a l [] = refl
-no-client bytes a l (call ∷ h) = ap₂ _++_ (no-client bytes a l h) (aside-told a (step (after bytes h) call .sent)
+no-client bytes a l [] = ever-none bytes a
+no-client bytes a l (call ∷ h) = ever-more bytes a h call ∙ ap₂ _++_ (no-client bytes a l h) (aside-told a (step (after bytes h) call .sent)
     (each-weaker (λ (d : Delivery). d .client < 8) (Aside a) (λ d k. other (d .client) (own (d .message)) k (eqb (d .client) a) refl) (step (after bytes h) call .sent) (sent-to-clients (after bytes h) call)))
   where
     other : (c : ℕ) (o : Bool) → c < 8 → (b : Bool) → eqb c a ≡ b → (b && o) ≡ false
     other c o k true e = absurd (omega (arith, eqb-true c a e))
     other c o k false e = refl
 
-told-alike : (bytes : List ℕ) (a : ℕ) (calls others : List Call) → OneDispatcher bytes a calls others → toldEver bytes a (reverse calls) ≡ toldEver bytes a (reverse others)
-told-alike bytes a calls others g = go (ltb a 8) refl
+told-alike : (bytes : List ℕ) (a : ℕ) (one two : List Call) → OneDispatcher bytes a one two → toldEver bytes a (reverse one) ≡ toldEver bytes a (reverse two)
+told-alike bytes a one two g = go (ltb a 8) refl
   where
-    go : (b : Bool) → ltb a 8 ≡ b → toldEver bytes a (reverse calls) ≡ toldEver bytes a (reverse others)
-    go true l = same-told bytes a calls others g (ltb-true a 8 l)
-    go false l = no-client bytes a (ltb-false a 8 l) (reverse calls) ∙ sym (no-client bytes a (ltb-false a 8 l) (reverse others))
+    go : (b : Bool) → ltb a 8 ≡ b → toldEver bytes a (reverse one) ≡ toldEver bytes a (reverse two)
+    go true l = same-told bytes a one two g (ltb-true a 8 l)
+    go false l = no-client bytes a (ltb-false a 8 l) (reverse one) ∙ sym (no-client bytes a (ltb-false a 8 l) (reverse two))
 
--- A list, and that list without the others.
+-- The assumption met.
+
+accepted-is : (bytes : List ℕ) (h : List Call) (call : Call) → endsAll (call .action) (packetsOf bytes h call) ≡ (returnedZero bytes h call && asksEnd (call .action))
+accepted-is bytes h call = ends-by-number bytes h call ∙ ap (λ b. returnedZero bytes h call && b) (asks-end-is (call .action))
 
 module _ (bytes : List ℕ) (a : ℕ) where
+  -- a call more, at the end
+  shared-more : (calls : List Call) (call : Call) (b : Bool) → isShared a (call .action) ≡ b → sharedCalls a (calls ++ (call ∷ [])) ≡ sharedCalls a calls ++ cond b (sharedOf call ∷ []) []
+  unfolding only
+  shared-more calls call b e = ap (map sharedOf) (only-append (λ (call : Call). isShared a (call .action)) calls (call ∷ [])) ∙ (map-append sharedOf (sharedIn a calls) _ ∙ ap (λ l. sharedCalls a calls ++ l) (go b e))
+    where
+      go : (b : Bool) → isShared a (call .action) ≡ b → map sharedOf (cond (isShared a (call .action)) (call ∷ []) []) ≡ cond b (sharedOf call ∷ []) []
+      go true e = rw e
+      go false e = rw e
+
+  ends-more : (calls : List Call) (call : Call) → (not (isShared a (call .action)) && endsAll (call .action) (packetsOf bytes (reverse calls) call)) ≡ false
+      → othersEnd bytes a (reverse calls) ≡ false → othersEnd bytes a (reverse (calls ++ (call ∷ []))) ≡ false
+  unfolding othersEnd
+  ends-more calls call e z = ap (othersEnd bytes a) (reverse-append calls (call ∷ [])) ∙ rw (e, z)
+
+  with-shared : (one two : List Call) → OneDispatcher bytes a one two → (call other : Call) → isShared a (call .action) ≡ true → sharedOf call ≡ sharedOf other
+      → OneDispatcher bytes a (one ++ (call ∷ [])) (two ++ (other ∷ []))
+  with-shared one two g call other e q = record {
+    same-calls = shared-more one call true e ∙ (ap₂ (λ l x. l ++ (x ∷ [])) (g .same-calls) q ∙ sym (shared-more two other true there));
+    none-ends = ends-more one call (ap (λ b. not b && endsAll (call .action) (packetsOf bytes (reverse one) call)) e) (g .none-ends);
+    none-ends-there = ends-more two other (ap (λ b. not b && endsAll (other .action) (packetsOf bytes (reverse two) other)) there) (g .none-ends-there);
+  }
+    where
+      there : isShared a (other .action) ≡ true
+      there = ap (λ (x : SharedCall). isShared a (x .action)) (sym q) ∙ e
+
+  with-other : (one two : List Call) → OneDispatcher bytes a one two → (call : Call) → isShared a (call .action) ≡ false
+      → (returnedZero bytes (reverse one) call && asksEnd (call .action)) ≡ false → OneDispatcher bytes a (one ++ (call ∷ [])) two
+  with-other one two g call e z = record {
+    same-calls = shared-more one call false e ∙ (append-nil (sharedCalls a one) ∙ g .same-calls);
+    none-ends = ends-more one call (rw e (accepted-is bytes (reverse one) call ∙ z)) (g .none-ends);
+    none-ends-there = g .none-ends-there;
+  }
+
   -- among shared calls none is another's
   none-other : (h : List Call) → othersEnd bytes a (sharedIn a h) ≡ false
   unfolding othersEnd only
@@ -162,14 +197,24 @@ module _ (bytes : List ℕ) (a : ℕ) where
     none-ends-there = ap (othersEnd bytes a) (sym (only-reverse (λ (call : Call). isShared a (call .action)) calls)) ∙ none-other (reverse calls);
   }
 
+pub others-met : OthersMet
+unfolding othersEnd
+others-met = record {
+  accepted = accepted-is;
+  fresh = λ bytes a. record { same-calls = refl; none-ends = refl; none-ends-there = refl };
+  shared-call = with-shared;
+  others-call = with-other;
+  either-way = λ bytes a one two g. record { same-calls = sym (g .same-calls); none-ends = g .none-ends-there; none-ends-there = g .none-ends };
+  alone = without-others;
+}
+
 -- The claims.
 
 pub others-reach : OthersReach
 others-reach = record {
-  same-lines = λ bytes a calls others g. ever-told bytes a (reverse calls) ∙ (ap (map line) (told-alike bytes a calls others g) ∙ sym (ever-told bytes a (reverse others)));
-  same-state = λ bytes a ha calls others g. same-after bytes a calls others g ha;
-  accepted = λ bytes h call. ends-by-number bytes h call ∙ ap (λ b. isZero (step (after bytes h) call .number) && b) (asks-end-is (call .action));
-  alone = without-others;
+  same-lines = λ bytes a one two g. ever-told bytes a (reverse one) ∙ (ap (map line) (told-alike bytes a one two g) ∙ sym (ever-told bytes a (reverse two)));
+  same-state = λ bytes a ha one two g. same-after bytes a one two g ha;
+  by-name = λ is bytes a calls. ever-named bytes a is (reverse calls);
 }
 
 -- in a line on sensors others do not show
@@ -186,7 +231,7 @@ line-own malformed e = absurd (true≢false (sym e))
 line-own (message m) e = sensors-own (m .name) e
 
 pub others-apart : OthersApart
-others-apart bytes a calls others g = sym (within calls) ∙ (ap (only (named ofSensors)) (others-reach .same-lines bytes a calls others g) ∙ within others)
+others-apart bytes a one two g = sym (within one) ∙ (ap (only (named ofSensors)) (others-reach .same-lines bytes a one two g) ∙ within two)
   where
     within : (calls : List Call) → only (named ofSensors) (only (named (λ name. not (ofOthers name))) (linesEver bytes a (reverse calls))) ≡ only (named ofSensors) (linesEver bytes a (reverse calls))
     within calls = only-within (named ofSensors) (named (λ name. not (ofOthers name))) (λ l e. line-own (parse (withoutEnd l)) e) (linesEver bytes a (reverse calls))

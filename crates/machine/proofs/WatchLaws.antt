@@ -12,8 +12,8 @@ use Rattle.machine.specs.Places.{gather, only, Each}
 use Rattle.machine.specs.Declined.{Call}
 use Rattle.machine.specs.Machine.{step}
 use Rattle.machine.specs.TwoDevices.{after, sentTo, linesTo, withoutEnd}
-use Rattle.machine.specs.Others.{ofOthers, isNamedAs, linesEver}
-use Rattle.machine.proofs.PlacesLaws.{only-append}
+use Rattle.machine.specs.Others.{ofOthers, isNamedAs, linesEver, sentEver}
+use Rattle.machine.proofs.PlacesLaws.{each-append, only-append}
 use Rattle.machine.proofs.HeardLaws.{sent-append}
 use Rattle.machine.proofs.FileLaws.{line-parses}
 use Rattle.machine.proofs.ArchiveLaws.{lines-packed, each-to}
@@ -61,7 +61,7 @@ gather-told a f g (suc n) h = told-append a (gather f n) (f n) ∙ (ap₂ _++_ (
 
 -- Lines.
 
--- those whose message has a name that passes the test
+-- one whose message has a name that passes the test
 abbrev pub named : (List ℕ → Bool) → List ℕ → Bool
 named is l = isNamedAs is (parse (withoutEnd l))
 
@@ -79,15 +79,31 @@ only-lines is (m ∷ ms) w = ap (λ p. cond (isNamedAs is p) (line m ∷ only (n
     go false h = h
 
 module _ (bytes : List ℕ) (a : ℕ) where
+  ever-well-formed : (h : List Call) → Each WellFormed (sentEver bytes a h)
+  unfolding sentEver
+  ever-well-formed [] = tt
+  ever-well-formed (call ∷ h) = each-append WellFormed (sentEver bytes a h) _ (ever-well-formed h) (each-to WellFormed a (step (after bytes h) call .sent) (sent-well-formed (after bytes h) call))
+
+  ever-lines : (h : List Call) → linesEver bytes a h ≡ map line (sentEver bytes a h)
+  unfolding linesEver sentEver
+  ever-lines [] = refl
+  ever-lines (call ∷ h) = ap₂ _++_ (ever-lines h) (ap (linesTo a) (sent-packets bytes a h call) ∙ lines-packed a (step (after bytes h) call .sent)) ∙ sym (map-append line (sentEver bytes a h) _)
+
+  pub ever-named : (is : List ℕ → Bool) (h : List Call) → only (named is) (linesEver bytes a h) ≡ map line (only (λ (m : Message). is (m .name)) (sentEver bytes a h))
+  ever-named is h = ap (only (named is)) (ever-lines h) ∙ only-lines is (sentEver bytes a h) (ever-well-formed h)
+
   -- what client a is told over a list of calls
   unfoldable pub toldEver : List Call → List Message
-  toldEver [] = []
-  toldEver (call ∷ h) = toldEver h ++ toldTo a (step (after bytes h) call .sent)
+  toldEver h = only own (sentEver bytes a h)
+
+  pub ever-none : toldEver [] ≡ []
+  unfolding toldEver sentEver only
+  ever-none = refl
+
+  pub ever-more : (h : List Call) (call : Call) → toldEver (call ∷ h) ≡ toldEver h ++ toldTo a (step (after bytes h) call .sent)
+  unfolding toldEver sentEver toldTo
+  ever-more h call = only-append own (sentEver bytes a h) (sentTo a (step (after bytes h) call .sent))
 
   pub ever-told : (h : List Call) → only (named (λ name. not (ofOthers name))) (linesEver bytes a h) ≡ map line (toldEver h)
-  unfolding linesEver toldEver toldTo only
-  ever-told [] = refl
-  ever-told (call ∷ h) = only-append (named (λ name. not (ofOthers name))) (linesEver bytes a h) _ ∙ (ap₂ _++_ (ever-told h)
-      (ap (only (named (λ name. not (ofOthers name)))) (ap (linesTo a) (sent-packets bytes a h call) ∙ lines-packed a (step (after bytes h) call .sent))
-      ∙ only-lines (λ name. not (ofOthers name)) (sentTo a (step (after bytes h) call .sent)) (each-to WellFormed a (step (after bytes h) call .sent) (sent-well-formed (after bytes h) call)))
-      ∙ sym (map-append line (toldEver h) _))
+  unfolding toldEver
+  ever-told h = ever-named (λ name. not (ofOthers name)) h

@@ -7,12 +7,14 @@ use mathlib.Core.List.{List, [], _∷_, _++_, map, reverse}
 use lib.Dec.{eqb, ltb}
 use lib.ListN.{length}
 use Rattle.output.specs.Text.{text, same}
+use Rattle.message.specs.Message.{Message, line}
 use Rattle.line.specs.Line.{Parse, malformed, message, parse}
 use Rattle.machine.specs.declared.State.{State}
 use Rattle.machine.specs.Places.{only}
 use Rattle.machine.specs.State.{clientOf, pairOf}
 use Rattle.machine.specs.Declined.{Action, Connect, Disconnect, Tick, Reading, Log, Line, Call}
-use Rattle.machine.specs.TwoDevices.{after, returnedZero, packetsOf, endsAll, isRequest, linesTo, withoutEnd}
+use Rattle.machine.specs.Machine.{step}
+use Rattle.machine.specs.TwoDevices.{after, returnedZero, packetsOf, endsAll, isRequest, linesTo, sentTo, withoutEnd}
 
 -- The two lists.
 
@@ -45,11 +47,11 @@ unfoldable pub othersEnd : List ℕ → ℕ → List Call → Bool
 othersEnd bytes a [] = false
 othersEnd bytes a (call ∷ h) = (not (isShared a (call .action)) && endsAll (call .action) (packetsOf bytes h call)) || othersEnd bytes a h
 
--- "Two lists of calls from fresh devices of one sheet": all else in them may differ
-pub record OneDispatcher (bytes : List ℕ) (a : ℕ) (calls others : List Call) : Type 0 where
-  pub same-calls : sharedCalls a calls ≡ sharedCalls a others
-  pub none-ends : othersEnd bytes a (reverse calls) ≡ false
-  pub none-ends-there : othersEnd bytes a (reverse others) ≡ false
+-- "Two lists of calls from fresh devices of one sheet"; "Connections, requests and log entries of the others may differ": nothing else is asked of them
+pub record OneDispatcher (bytes : List ℕ) (a : ℕ) (one two : List Call) : Type 0 where
+  pub same-calls : sharedCalls a one ≡ sharedCalls a two
+  pub none-ends : othersEnd bytes a (reverse one) ≡ false
+  pub none-ends-there : othersEnd bytes a (reverse two) ≡ false
 
 -- The dispatcher's lines.
 
@@ -75,8 +77,8 @@ ofSensors name =
 
 -- the request: "Then the dispatcher's `sensor-status` lines are equal, as are its replies and informs", all as one sequence, byte for byte
 abbrev pub OthersApart : Type 0
-OthersApart = (bytes : List ℕ) (a : ℕ) (calls others : List Call) → OneDispatcher bytes a calls others
-    → linesNamed ofSensors bytes a calls ≡ linesNamed ofSensors bytes a others
+OthersApart = (bytes : List ℕ) (a : ℕ) (one two : List Call) → OneDispatcher bytes a one two
+    → linesNamed ofSensors bytes a one ≡ linesNamed ofSensors bytes a two
 
 -- How far the others reach.
 
@@ -95,6 +97,25 @@ pub record AlikeFor (a : ℕ) (s t : State) : Type 0 where
   pub client-same : clientOf s a ≡ clientOf t a
   pub pair-same : (j : ℕ) → j < 32 → pairOf s a j ≡ pairOf t a j
 
+-- all messages that are sent to it over the list, in order
+unfoldable pub sentEver : List ℕ → ℕ → List Call → List Message
+sentEver bytes a [] = []
+sentEver bytes a (call ∷ h) = sentEver bytes a h ++ sentTo a (step (after bytes h) call .sent)
+
+-- `same-lines`: all the dispatcher's lines are equal but those in which others show, as one sequence.
+-- `same-state`: the states that the two lists end with are alike for it; and so after each shared call, since two such lists that are cut there are two
+-- such lists.
+-- `by-name`: the lines of a name are those of the messages that were sent with that name, none more and none less.
+pub record OthersReach : Type 0 where
+  pub same-lines : (bytes : List ℕ) (a : ℕ) (one two : List Call) → OneDispatcher bytes a one two
+      → linesNamed (λ name. not (ofOthers name)) bytes a one ≡ linesNamed (λ name. not (ofOthers name)) bytes a two
+  pub same-state : (bytes : List ℕ) (a : ℕ) → a < 8 → (one two : List Call) → OneDispatcher bytes a one two
+      → AlikeFor a (after bytes (reverse one)) (after bytes (reverse two))
+  pub by-name : (is : List ℕ → Bool) (bytes : List ℕ) (a : ℕ) (calls : List Call)
+      → linesNamed is bytes a calls ≡ map line (only (λ (m : Message). is (m .name)) (sentEver bytes a (reverse calls)))
+
+-- Lists that differ meet the assumption.
+
 -- a request to halt or to restart
 abbrev pub asksEnd : Action → Bool
 asksEnd (Connect c address) = false
@@ -104,16 +125,19 @@ asksEnd (Reading j r) = false
 asksEnd (Log level logger said) = false
 asksEnd (Line c line) = isRequest (text "halt") (parse line) || isRequest (text "restart") (parse line)
 
--- `same-lines`: all the dispatcher's lines are equal but those in which others show, as one sequence.
--- `same-state`: the states that two such lists end with are alike for it; so they are after each shared call, since two such lists that end there are two such lists.
--- `accepted`: "answered `ok`" is accepted: such a request that returned 0. One that is declined may differ.
--- `alone`: lists that differ meet the assumption: a list, and that list without all calls of the others, as if the dispatcher were alone on the line.
-pub record OthersReach : Type 0 where
-  pub same-lines : (bytes : List ℕ) (a : ℕ) (calls others : List Call) → OneDispatcher bytes a calls others
-      → linesNamed (λ name. not (ofOthers name)) bytes a calls ≡ linesNamed (λ name. not (ofOthers name)) bytes a others
-  pub same-state : (bytes : List ℕ) (a : ℕ) → a < 8 → (calls others : List Call) → OneDispatcher bytes a calls others
-      → AlikeFor a (after bytes (reverse calls)) (after bytes (reverse others))
+-- `accepted`: what is "answered `ok`" is what is accepted, a request to halt or to restart that returned 0.
+-- `fresh`, `shared-call`, `others-call`, `either-way`: two lists without calls; a shared call more in both; any other call more in one of them, but for such a
+-- request that returned 0.
+-- `alone`: a list, and that list without all calls of the others, as if the dispatcher were alone on the line.
+pub record OthersMet : Type 0 where
   pub accepted : (bytes : List ℕ) (h : List Call) (call : Call)
       → endsAll (call .action) (packetsOf bytes h call) ≡ (returnedZero bytes h call && asksEnd (call .action))
+  pub fresh : (bytes : List ℕ) (a : ℕ) → OneDispatcher bytes a [] []
+  pub shared-call : (bytes : List ℕ) (a : ℕ) (one two : List Call) → OneDispatcher bytes a one two → (call other : Call)
+      → isShared a (call .action) ≡ true → sharedOf call ≡ sharedOf other → OneDispatcher bytes a (one ++ (call ∷ [])) (two ++ (other ∷ []))
+  pub others-call : (bytes : List ℕ) (a : ℕ) (one two : List Call) → OneDispatcher bytes a one two → (call : Call)
+      → isShared a (call .action) ≡ false → (returnedZero bytes (reverse one) call && asksEnd (call .action)) ≡ false
+      → OneDispatcher bytes a (one ++ (call ∷ [])) two
+  pub either-way : (bytes : List ℕ) (a : ℕ) (one two : List Call) → OneDispatcher bytes a one two → OneDispatcher bytes a two one
   pub alone : (bytes : List ℕ) (a : ℕ) (calls : List Call) → othersEnd bytes a (reverse calls) ≡ false
       → OneDispatcher bytes a calls (sharedIn a calls)

@@ -2,6 +2,7 @@
 //! made in: ticks when something is due, readings near the last report.
 
 mod lines;
+pub mod others;
 mod readings;
 mod sampling;
 mod sheets;
@@ -119,8 +120,7 @@ struct Generator {
 
 /// A random script: its lines without their ends. It begins with an `open`.
 pub fn script(seed: u64, profile: Profile) -> Vec<Vec<u8>> {
-    let session = Session::default();
-    let mut generator = Generator { random: Random::new(seed), session, profile, lines: Vec::new() };
+    let mut generator = Generator::new(seed, profile);
     generator.open();
     while generator.lines.len() < profile.calls {
         generator.step();
@@ -129,6 +129,11 @@ pub fn script(seed: u64, profile: Profile) -> Vec<Vec<u8>> {
 }
 
 impl Generator {
+    /// Before its first call.
+    fn new(seed: u64, profile: Profile) -> Generator {
+        Generator { random: Random::new(seed), session: Session::default(), profile, lines: Vec::new() }
+    }
+
     /// The device as it is after the calls so far.
     fn device(&self) -> &Device {
         &self.session.device
