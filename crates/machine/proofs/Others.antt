@@ -70,12 +70,12 @@ module _ (bytes : List ℕ) (a : ℕ) (ha : a < 8) where
     pub states : AlikeFor a (after bytes h) (after bytes k)
     pub told : toldEver bytes a h ≡ toldEver bytes a k
 
-  shared-step : (call : Call) (h k : List Call) → isShared a (call .action) ≡ true → Follows h k → Follows (call ∷ h) (callOf (call .action) (lentFor (ltb (length (call .lent)) 65536)) ∷ k)
+  shared-step : (call : Call) (h k : List Call) → isShared a (call .action) ≡ true → Follows h k → Follows (call ∷ h) (callOf (call .action) (lentFor (sharedOf call .short)) ∷ k)
   unfolding after
   shared-step call h k e f = record { states = both .0; told = ever-more bytes a h call ∙ (ap₂ _++_ (f .told) (both .1) ∙ sym (ever-more bytes a k other)) }
     where
       other : Call
-      other = callOf (call .action) (lentFor (ltb (length (call .lent)) 65536))
+      other = callOf (call .action) (lentFor (sharedOf call .short))
 
       Both : State → Type 0
       Both t = AlikeFor a (step (after bytes h) call .next) (step t other .next) × (toldTo a (step (after bytes h) call .sent) ≡ toldTo a (step t other .sent))
@@ -83,7 +83,7 @@ module _ (bytes : List ℕ) (a : ℕ) (ha : a < 8) where
       both : Both (after bytes k)
       both = by-beside (λ t. inRange t ≡ true → Both t) a (after bytes h) (after bytes k) (f .states)
           (λ l ks ps g r. step-alike a ha (after bytes h) (range-out (after bytes h) (after-in-range bytes h)) l ks ps g (call .action) e (call .lent) (other .lent)
-          (sym (lent-short (ltb (length (call .lent)) 65536))) (after-in-range bytes h) r)
+          (sym (lent-short (sharedOf call .short))) (after-in-range bytes h) r)
           (after-in-range bytes k)
 
   other-step : (call : Call) (h k : List Call) → isShared a (call .action) ≡ false → endsAll (call .action) (packetsOf bytes h call) ≡ false → Follows h k → Follows (call ∷ h) k
