@@ -23,7 +23,7 @@ use Rattle.machine.specs.Declined.{Action, Connect, Disconnect, Tick, Re
 use Rattle.machine.specs.Machine.{Effect, connectSends, entries, lineWork, perform, step}
 use Rattle.machine.specs.Others.{isShared, AlikeFor}
 use Rattle.machine.proofs.TestLaws.{eqb-sym, cond-false}
-use Rattle.machine.proofs.PlacesLaws.{each-append, each-weaker}
+use Rattle.machine.proofs.PlacesLaws.{each-append, each-weaker, each-of}
 use Rattle.machine.proofs.StateLaws.{pair-sampled, client-after, other-pair}
 use Rattle.machine.proofs.StepLaws.{nameFor, by-cases}
 use Rattle.machine.proofs.AnsweredLaws.{asksFor}
@@ -36,13 +36,9 @@ use Rattle.machine.proofs.BesideLaws.{beside-alike, alike-refl, away, w
 abbrev To : ℕ → Delivery → Type 0
 To c d = d .client ≡ c
 
-all-to : {A : Type 0} (c : ℕ) (f : A → Message) (xs : List A) → Each (To c) (map (λ x. to c (f x)) xs)
-all-to c f [] = tt
-all-to c f (x ∷ xs) = (refl, all-to c f xs)
-
 counted-to : (c : ℕ) (m : Message) (ms : List Message) → Each (To c) (Messages.countedAnswer c m ms)
 unfolding Messages.countedAnswer
-counted-to c m ms = each-append (To c) (Messages.allTo c ms) _ (all-to c (λ m. m) ms) (refl, tt)
+counted-to c m ms = each-append (To c) (Messages.allTo c ms) _ (each-of (To c) (to c) ms (λ m. refl)) (refl, tt)
 
 -- another client is told nothing
 to-other : (a c : ℕ) → eqb c a ≡ false → (ds : List Delivery) → Each (To c) ds → toldTo a ds ≡ []
@@ -68,7 +64,7 @@ module _ (a : ℕ) (ha : a < 8) (s : State) where
           (record { sent = to c (replied asks) ∷ cond n [] (map (λ j. to c (Messages.reportOf (s .sheet) s j)) js); next = withPairs s (sampledPairs s c js asks) }) .sent)
       go true n = (refl, tt)
       go false true = (refl, tt)
-      go false false = (refl, all-to c (Messages.reportOf (s .sheet) s) js)
+      go false false = (refl, each-of (To c) (λ j. to c (Messages.reportOf (s .sheet) s j)) js (λ j. refl))
 
   -- one that ends no connection goes to its sender alone
   answer-to : (c : ℕ) (r : Request) (m : Message) → (same (nameFor r) (nameFor Halt) || same (nameFor r) (nameFor Restart)) ≡ false → Each (To c) (answer (s .sheet) s c r m .sent)

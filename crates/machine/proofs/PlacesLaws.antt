@@ -97,6 +97,11 @@ module _ {A B : Type 0} where
   each-map P f [] h = tt
   each-map P f (x ∷ xs) h = (h .0, each-map P f xs (h .1))
 
+  -- where it is so whatever they are made of
+  pub each-of : (P : B → Type 0) (f : A → B) (xs : List A) → ((x : A) → P (f x)) → Each P (map f xs)
+  each-of P f [] h = tt
+  each-of P f (x ∷ xs) h = (h x, each-of P f xs h)
+
 pub below-at : (f : ℕ → Bool) (n p : ℕ) → allBelow f n ≡ true → p < n → f p ≡ true
 unfolding allBelow
 below-at f zero p h k = absurd (omega arith)

@@ -20,7 +20,7 @@ use Rattle.machine.specs.Declined.{Action, Connect, Disconnect, Tick, Re
 use Rattle.machine.specs.Machine.{connectSends, entries}
 use Rattle.machine.specs.Reader.{Other, samplingNews, news}
 use Rattle.machine.proofs.TestLaws.{cond-false, cond-either}
-use Rattle.machine.proofs.PlacesLaws.{each-append, each-gather, each-one, each-map}
+use Rattle.machine.proofs.PlacesLaws.{each-append, each-gather, each-one, each-map, each-of}
 use Rattle.machine.proofs.StepLaws.{nameFor}
 
 -- a delivery that tells nothing
@@ -59,13 +59,9 @@ counted-quiet : (sheet : Sheet) (c : ℕ) (m : Message) (ms : List Message) → 
 unfolding Messages.countedAnswer
 counted-quiet sheet c m ms h k = each-append (Silent sheet) (map (to c) ms) _ (each-map (Silent sheet) (to c) ms k) (reply-quiet sheet m _ h, tt)
 
-every : {A B : Type 0} (P : B → Type 0) (f : A → B) (xs : List A) → ((x : A) → P (f x)) → Each P (map f xs)
-every P f [] h = tt
-every P f (x ∷ xs) h = (h x, every P f xs h)
-
 module _ (sheet : Sheet) (s : State) (c : ℕ) (m : Message) (other : same (m .name) (text "sensor-sampling") ≡ false) where
   informs-quiet : {A : Type 0} (f : A → Message) (xs : List A) → ((x : A) → news sheet (f x) ≡ Other) → Quiet sheet (Messages.countedAnswer c m (map f xs))
-  informs-quiet f xs k = counted-quiet sheet c m (map f xs) other (every (λ m. news sheet m ≡ Other) f xs k)
+  informs-quiet f xs k = counted-quiet sheet c m (map f xs) other (each-of (λ m. news sheet m ≡ Other) f xs k)
 
   ending-quiet : (why : List ℕ) (halted : Bool) (level : ℕ) → Quiet sheet (endConnections s c m why halted level .sent)
   unfolding news

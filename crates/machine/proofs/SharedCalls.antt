@@ -28,7 +28,7 @@ use Rattle.machine.specs.Declined.{Action, Connect, Disconnect, Tick, Re
 use Rattle.machine.specs.Machine.{Effect, sampleGiven, connectSends, lineWork, perform, outcome, step}
 use Rattle.machine.specs.Others.{isShared, ofOthers, AlikeFor}
 use Rattle.machine.proofs.TestLaws.{passed}
-use Rattle.machine.proofs.PlacesLaws.{each-append, each-map}
+use Rattle.machine.proofs.PlacesLaws.{each-append, each-map, each-of}
 use Rattle.machine.proofs.StateLaws.{pair-sampled, pair-of-client, client-after}
 use Rattle.machine.proofs.RangeLaws.{InRange, sensors-of}
 use Rattle.machine.proofs.StepLaws.{nameFor, accepted, client-fits, asks-is}
@@ -39,11 +39,8 @@ use Rattle.machine.proofs.BesideLaws.{beside, Same, beside-alike, WorkA
 -- informs and a reply in which others show
 counted-aside : {A : Type 0} (a c : ℕ) (m : Message) (f : A → Message) (xs : List A) → own m ≡ false → ((x : A) → own (f x) ≡ false) → Each (Aside a) (Messages.countedAnswer c m (map f xs))
 unfolding Messages.countedAnswer
-counted-aside {A = A} a c m f xs e h = each-append (Aside a) (Messages.allTo c (map f xs)) _ (each-map (Aside a) (to c) (map f xs) (informs xs)) (shown (eqb c a) (own m) e, tt)
-  where
-    informs : (xs : List A) → Each (λ k. Aside a (to c k)) (map f xs)
-    informs [] = tt
-    informs (x ∷ xs) = (shown (eqb c a) (own (f x)) (h x), informs xs)
+counted-aside a c m f xs e h = each-append (Aside a) (Messages.allTo c (map f xs)) _
+    (each-map (Aside a) (to c) (map f xs) (each-of (λ k. Aside a (to c k)) f xs (λ x. shown (eqb c a) (own (f x)) (h x)))) (shown (eqb c a) (own m) e, tt)
 
 -- a reply of a name in which others show
 reply-shown : (m : Message) (r : Request) → m .name ≡ nameFor r → ofOthers (nameFor r) ≡ true → own m ≡ false
