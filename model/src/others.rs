@@ -100,10 +100,17 @@ pub fn compare_all(
         let texts: Vec<Script> =
             made.iter().flat_map(|one| one.lists.iter()).map(|list| text(list)).collect();
         let given = answers(&texts.iter().collect::<Vec<_>>())?;
+        let asked: usize = texts.iter().map(Vec::len).sum();
+        if given.len() != asked {
+            return Err(io::Error::other(format!(
+                "{} answers to {asked} calls, from seed {from} on",
+                given.len()
+            )));
+        }
         let mut rest = &given[..];
         for (seed, one) in (from..to).zip(&made) {
             let [first, second, alone] = one.lists.each_ref().map(|list| {
-                let (its, behind) = rest.split_at(list.len().min(rest.len()));
+                let (its, behind) = rest.split_at(list.len());
                 rest = behind;
                 its
             });
@@ -127,7 +134,11 @@ fn text(list: &[crate::script::Call]) -> Script {
 
 /// Compares a program's lines; false at the first difference.
 pub fn compare(program: &str, seeds: std::ops::Range<u64>, calls: usize) -> io::Result<bool> {
-    match compare_all(seeds, calls, |scripts| Ok(other_answers(program, scripts)?.0))? {
+    let answers = |scripts: &[&Script]| match other_answers(program, scripts)? {
+        (answers, true) => Ok(answers),
+        (_, false) => Err(io::Error::other(format!("{program} did not end well"))),
+    };
+    match compare_all(seeds, calls, answers)? {
         Ok(compared) => {
             println!("{compared:?}\n\nNo difference.");
             Ok(true)

@@ -36,9 +36,11 @@ pub record SharedCall : Type 0 where
   pub action : Action
   pub short : Bool
 
+-- of a call
 abbrev pub sharedOf : Call → SharedCall
 sharedOf call = record { action = call .action; short = ltb (length (call .lent)) 65536 }
 
+-- of all these calls of a list
 abbrev pub sharedCalls : ℕ → List Call → List SharedCall
 sharedCalls a calls = map sharedOf (sharedIn a calls)
 
