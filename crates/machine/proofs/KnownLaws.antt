@@ -16,27 +16,10 @@ use Rattle.machine.specs.Messages.{statusFor}
 use Rattle.machine.specs.Report.{statusChanged, changed, isValid, apart, width, beyond, moved, dueBy, due, reported}
 use Rattle.machine.specs.Requests.{sampled}
 use Rattle.machine.specs.Reader.{Told, toldOf, validStatus}
+use Rattle.machine.specs.Tells.{Same, Near, Known}
 use Rattle.machine.proofs.SampleRange.{valid-is}
 use Rattle.machine.proofs.TestLaws.{and-false, or-false, cond-cases}
 use Rattle.machine.proofs.RangeLaws.{none-is}
-
--- status and value are those of the report
-abbrev pub Same : Sensor → Sample → Told → Type 0
-Same n x r = (statusFor n x ≡ r .status) × (x .number ≡ r .value)
-
--- the status is that of the report and, where it is valid, the value lies at most the difference apart
-abbrev pub Near : Sensor → ℕ → Sample → Told → Type 0
-Near n d x r = (statusFor n x ≡ r .status) × (isValid x ≡ true → apart (x .number) (r .value) * 1000000 ≤ width n d)
-
--- what is known of the present reading from the last report
-abbrev pub Known : Sensor → ℕ → Sample → Strategy → Told → Type 0
-Known n clock x None r = Unit
-Known n clock x Auto r = Same n x r
-Known n clock x (Period p) r = Unit
-Known n clock x Event r = Same n x r
-Known n clock x (Differential d) r = Near n d x r
-Known n clock x (EventRate shortest longest) r = shortest ≤ clock - r .time → Same n x r
-Known n clock x (DifferentialRate d shortest longest) r = shortest ≤ clock - r .time → Near n d x r
 
 module _ (n : Sensor) where
   same-status : (last now : Sample) → statusChanged n last now ≡ false → statusFor n now ≡ statusFor n last

@@ -24,6 +24,7 @@ pub mod StrategyBack
 pub mod NewsLaws
 pub mod QuietLaws
 pub mod SamplingNews
+pub mod ShapeLaws
 pub mod Impossible
 pub mod CountLaws
 pub mod LineLengths
@@ -45,6 +46,7 @@ pub mod StrategyLaws
 pub mod KnownLaws
 pub mod SettledLaws
 pub mod ArchiveLaws
+pub mod TellsLaws
 pub mod TwoDevices
 pub mod WatchLaws
 pub mod BesideLaws

@@ -19,20 +19,14 @@ use Rattle.machine.specs.State.{connected, present, pairOf}
 use Rattle.machine.specs.Range.{isNone}
 use Rattle.machine.specs.Messages.{statusFor}
 use Rattle.machine.specs.Report.{isValid, apart, width}
-use Rattle.machine.specs.Machine.{step}
-use Rattle.machine.specs.Reader.{Told, validStatus, Impossible, news, View, viewBy, noView, standing, toldOf}
-use Rattle.machine.specs.TwoDevices.{Alike, Device, Equal, Held, Holds, Passed, Shared, TwoDevices, Within, after, archiveConnected, clock, final, history, lastReport, later, linesOf, messages, reading, report, sheetOf, strategy}
+use Rattle.machine.specs.Reader.{Told, validStatus}
+use Rattle.machine.specs.TwoDevices.{Alike, Device, Equal, Held, Holds, Passed, Shared, TwoDevices, Within, archiveConnected, clock, history, lastReport, linesOf, messages, reading, report, sheetOf, strategy}
+use Rattle.machine.specs.Tells.{fileView, Same, Near, Known, TellsAt}
 use Rattle.machine.specs.Claims.{Viewed}
-use Rattle.machine.proofs.SheetLaws.{Sensors, sensors-out}
-use Rattle.machine.proofs.OpenedRange.{opened-range}
-use Rattle.machine.proofs.Impossible.{never-impossible}
-use Rattle.machine.proofs.Sent.{sent-well-formed}
 use Rattle.machine.proofs.FileLaws.{file-apart}
-use Rattle.machine.proofs.ListLaws.{sheet-is, clock-is, reading-is, connected-is, at-end-small, heard-is}
-use Rattle.machine.proofs.StrategyLaws.{strategy-is}
-use Rattle.machine.proofs.KnownLaws.{Same, Near, Known, Good}
-use Rattle.machine.proofs.SettledLaws.{good}
-use Rattle.machine.proofs.ArchiveLaws.{lines-are, each-message, last-is}
+use Rattle.machine.proofs.ListLaws.{clock-is}
+use Rattle.machine.proofs.ArchiveLaws.{lines-are}
+use Rattle.machine.proofs.TellsLaws.{well, view-held, strategy-held, report-held, reading-held, tells}
 use Rattle.machine.proofs.SampleRange.{valid-is}
 use Rattle.machine.proofs.RangeLaws.{none-is}
 
@@ -64,9 +58,6 @@ module _ (n : Sensor) (now₁ now₂ : ℕ) (x y : Sample) where
   alike-of (EventRate s m) r k l = λ h. equal-of r (k (h .0)) (l (h .1))
   alike-of (DifferentialRate d s m) r k l = λ h. within-of d r (k (h .0)) (l (h .1))
 
-known-there : (n : Sensor) (r : Told) {c c′ : ℕ} {x x′ : Sample} {st st′ : Strategy} → c ≡ c′ → x ≡ x′ → st ≡ st′ → Known n c x st r → Known n c′ x′ st′ r
-known-there n r p q e k = rw (← p, ← q, ← e) k
-
 -- for the two devices' own strategies and reports, which are equal
 alike-both : (n : Sensor) (now₁ now₂ : ℕ) (x y : Sample) (st st′ : Strategy) (o o′ : Option Told) (r t : Told)
     → st ≡ st′ → o ≡ o′ → o ≡ some r → o′ ≡ some t → Known n now₁ x st r → Known n now₂ y st′ t
@@ -93,67 +84,23 @@ unless-none n st passed x y h = go (isNone st) refl
 
 -- One device.
 
-later-none : (o : Option Told) → later o none ≡ o
-later-none none = refl
-later-none (some r) = refl
+module _ (bytes : List ℕ) (d : Device) (c : archiveConnected bytes d ≡ true) (j : ℕ) (h : j < sheetOf bytes .count) where
+  holds : Holds bytes d j
+  holds = record {
+    strategy-held = strategy-held bytes (d .archive) (history bytes d) c j h;
+    report-held = report-held bytes (d .archive) (history bytes d) c j h;
+    reading-held = reading-held bytes (d .archive) (history bytes d) c j h;
+    clock-held = clock-is bytes (history bytes d);
+  }
 
-sheet-rules : (bytes : List ℕ) → Sensors (sheetOf bytes)
-sheet-rules bytes = sensors-out (sheetOf bytes) (opened-range bytes .sensors-in)
-
-module _ (bytes : List ℕ) (d : Device) (c : archiveConnected bytes d ≡ true) where
-  small : d .archive < 8
-  small = at-end-small bytes (d .archive) (history bytes d) c
-
-  on : connected (final bytes d) (d .archive) ≡ true
-  on = connected-is bytes (d .archive) small (history bytes d) ∙ c
-
-  well : Each WellFormed (messages bytes d)
-  well = each-message WellFormed bytes (d .archive) (λ h call. sent-well-formed (after bytes h) call) (history bytes d)
-
-  possible : Each (λ m. news (sheetOf bytes) m ≡ Impossible → ⊥) (messages bytes d)
-  possible = each-message (λ m. news (sheetOf bytes) m ≡ Impossible → ⊥) bytes (d .archive)
-      (λ h call. subst (λ sheet. Each (λ (e : Delivery). news sheet (e .message) ≡ Impossible → ⊥) (step (after bytes h) call .sent)) (sheet-is bytes h) (never-impossible (after bytes h) call))
-      (history bytes d)
-
-  module _ (j : ℕ) (h : j < sheetOf bytes .count) where
-    hj : j < 32
-    hj = omega (arith, sheet-rules bytes .count-most)
-
-    view : standing (sheetOf bytes) (final bytes d) (d .archive) j ≡ viewBy (sheetOf bytes) j (messages bytes d) noView
-    view = heard-is (d .archive) j small hj bytes (history bytes d) on
-
-    report-in : standing (sheetOf bytes) (final bytes d) (d .archive) j .last ≡ report bytes d j
-    report-in = ap (λ (v : View). v .last) view ∙ (last-is (sheetOf bytes) j (messages bytes d) noView well possible
-        ∙ (later-none (lastReport (sheetOf bytes) j (map line (messages bytes d)))
-        ∙ ap (lastReport (sheetOf bytes) j) (sym (lines-are bytes (d .archive) (history bytes d)))))
-
-    holds : Holds bytes d j
-    holds = record {
-      strategy-held = strategy-is (d .archive) j small hj bytes (history bytes d) on;
-      report-held = report-in;
-      reading-held = reading-is bytes j hj h (history bytes d);
-      clock-held = clock-is bytes (history bytes d);
-    }
-
-    -- what the archive knows
-    knows : isNone (strategy bytes d j) ≡ false → (r : Told) × ((report bytes d j ≡ some r)
-        × Known (sensorOf (sheetOf bytes) j) (clock bytes d) (reading bytes d j) (strategy bytes d j) r)
-    knows e = (
-      r,
-      (
-        sym report-in ∙ rw (g .was-reported (ap isNone (holds .strategy-held) ∙ e)),
-        known-there (sensorOf (sheetOf bytes) j) r (holds .clock-held) (holds .reading-held) (holds .strategy-held) (g .known),
-      ),
-    )
-      where
-        p : Subscription
-        p = pairOf (final bytes d) (d .archive) j
-
-        r : Told
-        r = toldOf (sensorOf (sheetOf bytes) j) (p .time) (p .sample)
-
-        g : Good (sensorOf (sheetOf bytes) j) (final bytes d .clock) (present (final bytes d) j) p
-        g = good (d .archive) j small hj bytes h (history bytes d) on
+  -- what the archive knows
+  knows : isNone (strategy bytes d j) ≡ false → (r : Told) × ((report bytes d j ≡ some r)
+      × Known (sensorOf (sheetOf bytes) j) (clock bytes d) (reading bytes d j) (strategy bytes d j) r)
+  knows e = let r = t .reading-told .was-reported (ap isNone (t .strategy-told) ∙ e) in
+      (r .0, (sym (t .report-told) ∙ r .1, subst (λ st. Known (sensorOf (sheetOf bytes) j) (clock bytes d) (reading bytes d j) st (r .0)) (t .strategy-told) (t .reading-told .tells (r .0) (r .1) (clock bytes d) (omega arith))))
+    where
+      t : TellsAt bytes (d .archive) (history bytes d) j
+      t = tells bytes (d .archive) (history bytes d) c j h
 
 -- "The state a list ends with holds .."
 pub held : Held
@@ -161,14 +108,14 @@ held bytes d c j h = holds bytes d c j h
 
 -- the reader is right
 pub viewed : Viewed
-viewed bytes d c j h = sym (view bytes d c j h)
+viewed bytes d c j h = sym (view-held bytes (d .archive) (history bytes d) c j h)
 
 -- demand 3
 pub two-devices : TwoDevices
 two-devices bytes d e cd ce f = (same, shared)
   where
     same : messages bytes d ≡ messages bytes e
-    same = file-apart _ _ (well bytes d cd) (well bytes e ce)
+    same = file-apart _ _ (well bytes (d .archive) (history bytes d)) (well bytes (e .archive) (history bytes e))
         (sym (ap joined (lines-are bytes (d .archive) (history bytes d))) ∙ (f ∙ ap joined (lines-are bytes (e .archive) (history bytes e))))
 
     lines : linesOf bytes (d .archive) (history bytes d) ≡ linesOf bytes (e .archive) (history bytes e)
@@ -178,8 +125,8 @@ two-devices bytes d e cd ce f = (same, shared)
     reports j = ap (lastReport (sheetOf bytes) j) lines
 
     strategies : (j : ℕ) → j < sheetOf bytes .count → strategy bytes d j ≡ strategy bytes e j
-    strategies j h = sym (holds bytes d cd j h .strategy-held) ∙ (ap (λ (v : View). v .strategy) (view bytes d cd j h ∙ (ap (λ ms. viewBy (sheetOf bytes) j ms noView) same ∙ sym (view bytes e ce j h)))
-        ∙ holds bytes e ce j h .strategy-held)
+    strategies j h = sym (tells bytes (d .archive) (history bytes d) cd j h .strategy-told)
+        ∙ (ap (λ ls. fileView (sheetOf bytes) j ls .strategy) lines ∙ tells bytes (e .archive) (history bytes e) ce j h .strategy-told)
 
     shared : (j : ℕ) → j < sheetOf bytes .count → Shared bytes d e j
     shared j h = record {

@@ -10,6 +10,7 @@ pub mod Declined
 pub mod Machine
 pub mod Reader
 pub mod TwoDevices
+pub mod Tells
 pub mod Others
 pub mod Claims
 pub mod SeveralNames

@@ -1,0 +1,130 @@
+-- One device: what is read off its list of calls and off its archive's file is what its state holds, and the file tells the present readings.
+use Prim.Native.Nat.{ℕ, _-_, _≤_, _<_}
+use native.Mathlib.Omega.{arith}
+use mathlib.Core.Path.{_≡_, refl, ap, sym, _∙_, subst}
+use mathlib.Core.Bool.{Bool, true, false, cond, true≢false}
+use mathlib.Core.List.{List, [], _∷_, map}
+use mathlib.Core.Option.{Option, none, some}
+use Rattle.message.specs.Message.{Message, line}
+use Rattle.message.specs.Delivery.{Delivery}
+use Rattle.line.specs.Line.{WellFormed}
+use Rattle.value.specs.declared.Sample.{Sample}
+use Rattle.machine.specs.declared.Sensor.{Sensor}
+use Rattle.machine.specs.declared.Sheet.{Sheet}
+use Rattle.machine.specs.declared.Strategy.{Strategy}
+use Rattle.machine.specs.declared.Strategy.the-variants.{None, Auto, Period, Event, Differential, EventRate, DifferentialRate}
+use Rattle.machine.specs.declared.Subscription.{Subscription}
+use Rattle.machine.specs.Places.{Each}
+use Rattle.machine.specs.Sheet.{sensorOf}
+use Rattle.machine.specs.State.{connected, present, pairOf}
+use Rattle.machine.specs.Declined.{Call}
+use Rattle.machine.specs.Machine.{step}
+use Rattle.machine.specs.Reader.{Told, Impossible, news, View, viewAfter, viewBy, noView, viewOf, standing, toldOf}
+use Rattle.machine.specs.TwoDevices.{after, sheetOf, connectedAtEnd, linesOf, messagesOf, strategyOf, lastReport, later, clockOf}
+use Rattle.machine.specs.Tells.{newsIn, viewIn, fileView, Known, ViewTells, readingAt, TellsAt, Tells}
+use Rattle.machine.proofs.SheetLaws.{Sensors, sensors-out}
+use Rattle.machine.proofs.OpenedRange.{opened-range}
+use Rattle.machine.proofs.Impossible.{never-impossible}
+use Rattle.machine.proofs.Sent.{sent-well-formed}
+use Rattle.machine.proofs.FileLaws.{line-parses}
+use Rattle.machine.proofs.ListLaws.{sheet-is, clock-is, reading-is, connected-is, at-end-small, heard-is}
+use Rattle.machine.proofs.StrategyLaws.{strategy-is}
+use Rattle.machine.proofs.KnownLaws.{Good}
+use Rattle.machine.proofs.SettledLaws.{good}
+use Rattle.machine.proofs.ArchiveLaws.{lines-are, each-message, last-is}
+
+-- The reader of lines is the reader of their messages.
+
+pub view-lines : (sheet : Sheet) (j : ℕ) (ms : List Message) (v : View) → Each WellFormed ms → viewIn sheet j (map line ms) v ≡ viewBy sheet j ms v
+unfolding viewIn viewBy
+view-lines sheet j [] v w = refl
+view-lines sheet j (m ∷ ms) v w = ap (λ p. viewIn sheet j (map line ms) (viewAfter j (newsIn sheet p) v)) (line-parses m (w .0)) ∙ view-lines sheet j ms _ (w .1)
+
+later-none : (o : Option Told) → later o none ≡ o
+later-none none = refl
+later-none (some r) = refl
+
+-- What is held, told.
+
+-- what is known at a clock was known at an earlier one
+pub known-earlier : (n : Sensor) (now clock : ℕ) (x : Sample) (st : Strategy) (r : Told) → now ≤ clock → Known n clock x st r → Known n now x st r
+known-earlier n now clock x None r h k = tt
+known-earlier n now clock x Auto r h k = k
+known-earlier n now clock x (Period p) r h k = tt
+known-earlier n now clock x Event r h k = k
+known-earlier n now clock x (Differential d) r h k = k
+known-earlier n now clock x (EventRate a b) r h k = λ p. k (omega arith)
+known-earlier n now clock x (DifferentialRate d a b) r h k = λ p. k (omega arith)
+
+-- the report that is there, else one that is given
+abbrev reportOr : Told → Option Told → Told
+reportOr q none = q
+reportOr q (some r) = r
+
+abbrev isThere : Option Told → Bool
+isThere none = false
+isThere (some r) = true
+
+-- a pair that is good, as a reader sees it
+pub good-tells : (n : Sensor) (clock : ℕ) (x : Sample) (p : Subscription) → Good n clock x p → ViewTells n (viewOf n p) clock x
+good-tells n clock x p g = record {
+  was-reported = λ e. (toldOf n (p .time) (p .sample), rw (g .was-reported e));
+  tells = λ r e now h. known-earlier n now clock x (p .strategy) r h (subst (Known n clock x (p .strategy)) (same r (p .reported) e) (g .known));
+}
+  where
+    same : (r : Told) (b : Bool) → cond b (some (toldOf n (p .time) (p .sample))) none ≡ some r → toldOf n (p .time) (p .sample) ≡ r
+    same r true e = ap (reportOr r) e
+    same r false e = absurd (true≢false (sym (ap isThere e)))
+
+pub sheet-rules : (bytes : List ℕ) → Sensors (sheetOf bytes)
+sheet-rules bytes = sensors-out (sheetOf bytes) (opened-range bytes .sensors-in)
+
+module _ (bytes : List ℕ) (a : ℕ) (h : List Call) where
+  pub well : Each WellFormed (messagesOf bytes a h)
+  well = each-message WellFormed bytes a (λ h call. sent-well-formed (after bytes h) call) h
+
+  possible : Each (λ m. news (sheetOf bytes) m ≡ Impossible → ⊥) (messagesOf bytes a h)
+  possible = each-message (λ m. news (sheetOf bytes) m ≡ Impossible → ⊥) bytes a
+      (λ h call. subst (λ sheet. Each (λ (e : Delivery). news sheet (e .message) ≡ Impossible → ⊥) (step (after bytes h) call .sent)) (sheet-is bytes h) (never-impossible (after bytes h) call))
+      h
+
+  module _ (c : connectedAtEnd bytes a h ≡ true) where
+    small : a < 8
+    small = at-end-small bytes a h c
+
+    pub on : connected (after bytes h) a ≡ true
+    on = connected-is bytes a small h ∙ c
+
+    module _ (j : ℕ) (hs : j < sheetOf bytes .count) where
+      hj : j < 32
+      hj = omega (arith, sheet-rules bytes .count-most)
+
+      pub view-held : standing (sheetOf bytes) (after bytes h) a j ≡ viewBy (sheetOf bytes) j (messagesOf bytes a h) noView
+      view-held = heard-is a j small hj bytes h on
+
+      pub strategy-held : pairOf (after bytes h) a j .strategy ≡ strategyOf bytes a j h
+      strategy-held = strategy-is a j small hj bytes h on
+
+      pub report-held : standing (sheetOf bytes) (after bytes h) a j .last ≡ lastReport (sheetOf bytes) j (linesOf bytes a h)
+      report-held = ap (λ (v : View). v .last) view-held ∙ (last-is (sheetOf bytes) j (messagesOf bytes a h) noView well possible
+          ∙ (later-none (lastReport (sheetOf bytes) j (map line (messagesOf bytes a h))) ∙ ap (lastReport (sheetOf bytes) j) (sym (lines-are bytes a h))))
+
+      pub reading-held : present (after bytes h) j ≡ readingAt bytes j h
+      reading-held = reading-is bytes j hj hs h
+
+      file-held : fileView (sheetOf bytes) j (linesOf bytes a h) ≡ standing (sheetOf bytes) (after bytes h) a j
+      file-held = ap (fileView (sheetOf bytes) j) (lines-are bytes a h) ∙ (view-lines (sheetOf bytes) j (messagesOf bytes a h) noView well ∙ sym view-held)
+
+      state-tells : ViewTells (sensorOf (sheetOf bytes) j) (standing (sheetOf bytes) (after bytes h) a j) (after bytes h .clock) (present (after bytes h) j)
+      state-tells = good-tells (sensorOf (sheetOf bytes) j) (after bytes h .clock) (present (after bytes h) j) (pairOf (after bytes h) a j) (good a j small hj bytes hs h on)
+
+      tells-at : TellsAt bytes a h j
+      tells-at = record {
+        strategy-told = ap (λ (v : View). v .strategy) file-held ∙ strategy-held;
+        report-told = ap (λ (v : View). v .last) file-held ∙ report-held;
+        reading-told = rw (file-held, ← clock-is bytes h, ← reading-held) state-tells;
+      }
+
+-- what a file tells at the end
+pub tells : Tells
+tells bytes a h c j hs = tells-at bytes a h c j hs

@@ -1,0 +1,258 @@
+-- What the file of one archive tells of the sensors: at the end, at every moment before it, and where the file is cut. `a` is the archive's client
+-- number, `bytes` the sheet, `h` a list of calls with its latest first, as in TwoDevices.antt; a file is the archive's lines (`linesOf`).
+use Prim.Native.Nat.{ℕ, _+_, _-_, _*_, _≤_, _<_}
+use Prim.Native.Char.{code}
+use mathlib.Core.Path.{_≡_}
+use mathlib.Core.Bool.{Bool, true, false, cond, not, _&&_, _||_}
+use mathlib.Core.List.{List, [], _∷_, _++_, map}
+use mathlib.Core.Option.{Option, none, some}
+use lib.Dec.{eqb, ltb}
+use lib.ListN.{length}
+use Rattle.output.specs.Text.{text}
+use Rattle.output.specs.Read.{readTime}
+use Rattle.message.specs.Message.{line}
+use Rattle.line.specs.Line.{Parse, malformed, message, parse}
+use Rattle.value.specs.declared.Reading.{Reading as Given}
+use Rattle.value.specs.declared.Sample.{Sample}
+use Rattle.machine.specs.declared.Sensor.{Sensor}
+use Rattle.machine.specs.declared.Sheet.{Sheet}
+use Rattle.machine.specs.declared.Strategy.{Strategy}
+use Rattle.machine.specs.declared.Strategy.the-variants.{None, Auto, Period, Event, Differential, EventRate, DifferentialRate}
+use Rattle.machine.specs.Places.{has, Each}
+use Rattle.machine.specs.Sheet.{sensorOf}
+use Rattle.machine.specs.Range.{isNone}
+use Rattle.machine.specs.Messages.{statusFor, report}
+use Rattle.machine.specs.Report.{isValid, apart, width}
+use Rattle.machine.specs.Requests.{argument}
+use Rattle.machine.specs.Declined.{Reading, Call, callOf}
+use Rattle.machine.specs.Machine.{sampleGiven}
+use Rattle.machine.specs.Reader.{Told, News, Other, Impossible, Reported, SetTo, news, isNamed, validStatus, View, viewAfter, noView, toldOf}
+use Rattle.machine.specs.TwoDevices.{sheetOf, returnedZero, connects, connectedAtEnd, linesOf, linesTo, packetsOf, withoutEnd, strategyOf, lastReport, lastReading, sampleFrom, clockOf}
+
+-- The reader of a file.
+
+-- what a line tells; a line that is no message is one that no device writes
+abbrev pub newsIn : Sheet → Parse → News
+newsIn sheet malformed = Impossible
+newsIn sheet (message m) = news sheet m
+
+-- a line as it stands in a file, with its end
+abbrev pub lineNews : Sheet → List ℕ → News
+lineNews sheet l = newsIn sheet (parse (withoutEnd l))
+
+-- what lines tell of sensor j, one after another
+unfoldable pub viewIn : Sheet → ℕ → List (List ℕ) → View → View
+viewIn sheet j [] v = v
+viewIn sheet j (l ∷ ls) v = viewIn sheet j ls (viewAfter j (lineNews sheet l) v)
+
+-- what a file tells of sensor j: the strategy of the last `!sensor-sampling ok` that names it, and its last report
+abbrev pub fileView : Sheet → ℕ → List (List ℕ) → View
+fileView sheet j ls = viewIn sheet j ls noView
+
+-- What a last report tells of the present reading x, by strategy, where the clock is `now`.
+
+-- "status and value are those of the last report"
+abbrev pub Same : Sensor → Sample → Told → Type 0
+Same n x r = (statusFor n x ≡ r .status) × (x .number ≡ r .value)
+
+-- "the status is, and where it is valid the value lies at most the difference from it"
+abbrev pub Near : Sensor → ℕ → Sample → Told → Type 0
+Near n d x r = (statusFor n x ≡ r .status) × (isValid x ≡ true → apart (x .number) (r .value) * 1000000 ≤ width n d)
+
+-- "the rate kinds once the shortest period has passed; period and none: nothing"
+abbrev pub Known : Sensor → ℕ → Sample → Strategy → Told → Type 0
+Known n now x None r = Unit
+Known n now x Auto r = Same n x r
+Known n now x (Period p) r = Unit
+Known n now x Event r = Same n x r
+Known n now x (Differential d) r = Near n d x r
+Known n now x (EventRate shortest longest) r = shortest ≤ now - r .time → Same n x r
+Known n now x (DifferentialRate d shortest longest) r = shortest ≤ now - r .time → Near n d x r
+
+-- what a reader's view of a sensor tells, where its present reading is x and the unit's clock `clock`: a sensor that has a strategy has a report, and this
+-- tells the reading, to a reader who goes by the unit's clock or by any earlier one, as by those that lines show
+pub record ViewTells (n : Sensor) (v : View) (clock : ℕ) (x : Sample) : Type 0 where
+  pub was-reported : isNone (v .strategy) ≡ false → (r : Told) × (v .last ≡ some r)
+  pub tells : (r : Told) → v .last ≡ some r → (now : ℕ) → now ≤ clock → Known n now x (v .strategy) r
+
+-- what lines tell of sensor j
+abbrev pub FileTells : Sheet → ℕ → List (List ℕ) → ℕ → Sample → Type 0
+FileTells sheet j ls clock x = ViewTells (sensorOf sheet j) (fileView sheet j ls) clock x
+
+-- The end of a list.
+
+-- the present reading of sensor j behind the calls h
+abbrev pub readingAt : List ℕ → ℕ → List Call → Sample
+readingAt bytes j h = sampleFrom (sensorOf (sheetOf bytes) j) (lastReading bytes j h)
+
+-- the file behind the calls h tells of sensor j: its strategy is the one that the archive set, its last report is the last, and these tell the reading
+pub record TellsAt (bytes : List ℕ) (a : ℕ) (h : List Call) (j : ℕ) : Type 0 where
+  pub strategy-told : fileView (sheetOf bytes) j (linesOf bytes a h) .strategy ≡ strategyOf bytes a j h
+  pub report-told : fileView (sheetOf bytes) j (linesOf bytes a h) .last ≡ lastReport (sheetOf bytes) j (linesOf bytes a h)
+  pub reading-told : FileTells (sheetOf bytes) j (linesOf bytes a h) (clockOf bytes h) (readingAt bytes j h)
+
+-- of every device with its archive connected at the end
+abbrev pub Tells : Type 0
+Tells = (bytes : List ℕ) (a : ℕ) (h : List Call) → connectedAtEnd bytes a h ≡ true → (j : ℕ) → j < sheetOf bytes .count → TellsAt bytes a h j
+
+-- Every moment.
+
+-- the archive connects in one of the calls `later`, which come behind the calls h
+unfoldable pub connectsIn : List ℕ → ℕ → List Call → List Call → Bool
+connectsIn bytes a [] h = false
+connectsIn bytes a (call ∷ later) h = connects bytes a (later ++ h) call || connectsIn bytes a later h
+
+-- "earlier point of the list in the same connection": h, where the calls `later` follow
+pub record Earlier (bytes : List ℕ) (a : ℕ) (later h : List Call) : Type 0 where
+  pub at-end : connectedAtEnd bytes a (later ++ h) ≡ true
+  pub same-connection : connectsIn bytes a later h ≡ false
+
+-- "the archive's lines up to there are a start of the file, and (a) holds there"
+pub record Moment (bytes : List ℕ) (a : ℕ) (later h : List Call) : Type 0 where
+  pub connected-then : connectedAtEnd bytes a h ≡ true
+  pub start : (rest : List (List ℕ)) × (linesOf bytes a (later ++ h) ≡ linesOf bytes a h ++ rest)
+  pub tells-then : (j : ℕ) → j < sheetOf bytes .count → TellsAt bytes a h j
+
+-- at every one of them
+abbrev pub EveryMoment : Type 0
+EveryMoment = (bytes : List ℕ) (a : ℕ) (later h : List Call) → Earlier bytes a later h → Moment bytes a later h
+
+-- Peaks.
+
+-- the moments from h on: behind h, and behind each call of `later`, the latest first
+abbrev pub moments : List Call → List Call → List (List Call)
+moments [] h = h ∷ []
+moments (call ∷ later) h = (call ∷ (later ++ h)) ∷ moments later h
+
+-- the valid among samples, by their numbers
+abbrev pub validNumbers : List Sample → List ℕ
+validNumbers [] = []
+validNumbers (x ∷ xs) = cond (isValid x) (x .number ∷ validNumbers xs) (validNumbers xs)
+
+-- the value of a valid report of sensor j
+abbrev pub validIn : ℕ → News → List ℕ
+validIn j Other = []
+validIn j Impossible = []
+validIn j (Reported k r) = cond (eqb k j && validStatus (r .status)) (r .value ∷ []) []
+validIn j (SetTo js st) = []
+
+-- the values of all valid reports of sensor j in a file
+unfoldable pub validReports : Sheet → ℕ → List (List ℕ) → List ℕ
+validReports sheet j [] = []
+validReports sheet j (l ∷ ls) = validIn j (lineNews sheet l) ++ validReports sheet j ls
+
+-- the highest of numbers, 0 where there is none
+unfoldable pub highest : List ℕ → ℕ
+highest [] = 0
+highest (n ∷ ns) = cond (ltb (highest ns) n) n (highest ns)
+
+-- sensor j has had differential d from the moment h on
+pub record UnderDifferential (bytes : List ℕ) (a j d : ℕ) (later h : List Call) : Type 0 where
+  pub earlier : Earlier bytes a later h
+  pub on-sheet : j < sheetOf bytes .count
+  pub set-since : Each (λ g. strategyOf bytes a j g ≡ Differential d) (moments later h)
+
+-- "every valid reading since a differential was set lies within the difference of the report that stood then", which is in the file; "the highest valid
+-- reading is at most the highest valid report plus the difference", on the scale of `width`
+pub record PeakBounded : Type 0 where
+  pub within : (bytes : List ℕ) (a j d : ℕ) (later h : List Call) → UnderDifferential bytes a j d later h
+      → Each (λ x. isValid x ≡ true → (v : ℕ) × ((has v (validReports (sheetOf bytes) j (linesOf bytes a (later ++ h))) ≡ true)
+      × (apart (x .number) v * 1000000 ≤ width (sensorOf (sheetOf bytes) j) d))) (map (readingAt bytes j) (moments later h))
+  pub peak : (bytes : List ℕ) (a j d : ℕ) (later h : List Call) → UnderDifferential bytes a j d later h
+      → highest (validNumbers (map (readingAt bytes j) (moments later h))) * 1000000
+      ≤ highest (validReports (sheetOf bytes) j (linesOf bytes a (later ++ h))) * 1000000 + width (sensorOf (sheetOf bytes) j) d
+
+-- Auto.
+
+-- the report of sensor j that a reading gives behind the calls h
+abbrev pub reportGiven : List ℕ → ℕ → Given → List Call → List ℕ
+reportGiven bytes j r h = line (report (clockOf bytes h) (sensorOf (sheetOf bytes) j) (sampleGiven (sensorOf (sheetOf bytes) j) r))
+
+-- "Under auto every accepted reading since the setting is a line of the file": the one line that its call gives the archive, behind those before it; and
+-- the line tells that reading, at that clock
+pub record AutoShows : Type 0 where
+  pub own-line : (bytes : List ℕ) (a j : ℕ) → j < sheetOf bytes .count → (r : Given) (lent : List ℕ) (later h : List Call)
+      → Earlier bytes a later (callOf (Reading j r) lent ∷ h) → returnedZero bytes h (callOf (Reading j r) lent) ≡ true → strategyOf bytes a j h ≡ Auto
+      → linesOf bytes a (callOf (Reading j r) lent ∷ h) ≡ linesOf bytes a h ++ (reportGiven bytes j r h ∷ [])
+  pub in-file : (bytes : List ℕ) (a j : ℕ) → j < sheetOf bytes .count → (r : Given) (lent : List ℕ) (later h : List Call)
+      → Earlier bytes a later (callOf (Reading j r) lent ∷ h) → returnedZero bytes h (callOf (Reading j r) lent) ≡ true → strategyOf bytes a j h ≡ Auto
+      → (rest : List (List ℕ)) × (linesOf bytes a (later ++ (callOf (Reading j r) lent ∷ h)) ≡ linesOf bytes a h ++ (reportGiven bytes j r h ∷ rest))
+  pub told : (bytes : List ℕ) (j : ℕ) → j < sheetOf bytes .count → (r : Given) (h : List Call)
+      → lineNews (sheetOf bytes) (reportGiven bytes j r h)
+      ≡ Reported j (toldOf (sensorOf (sheetOf bytes) j) (clockOf bytes h) (sampleGiven (sensorOf (sheetOf bytes) j) r))
+
+-- The clock.
+
+-- "a line shows a clock if it is a `#sensor-status` or a `#log`"
+abbrev pub showsClock : Parse → Bool
+showsClock malformed = false
+showsClock (message m) = isNamed (code "#") (text "sensor-status") m || isNamed (code "#") (text "log") m
+
+-- the clock that it shows
+abbrev pub clockIn : Parse → Option ℕ
+clockIn malformed = none
+clockIn (message m) =
+    cond (isNamed (code "#") (text "sensor-status") m) (readTime (argument m 0))
+    (cond (isNamed (code "#") (text "log") m) (readTime (argument m 1))
+    none)
+
+-- of a line as it stands in a file
+abbrev pub lineClock : List ℕ → Option ℕ
+lineClock l = clockIn (parse (withoutEnd l))
+
+-- "The clock never goes back"; each line of a call that shows a clock shows the one at the call's end; "at the end it is at least the clock of every report
+-- and log entry in the file"
+pub record ClockShown : Type 0 where
+  pub never-back : (bytes : List ℕ) (later h : List Call) → clockOf bytes h ≤ clockOf bytes (later ++ h)
+  pub shown : (bytes : List ℕ) (a : ℕ) (h : List Call) (call : Call)
+      → Each (λ l. showsClock (parse (withoutEnd l)) ≡ true → lineClock l ≡ some (clockOf bytes (call ∷ h))) (linesTo a (packetsOf bytes h call))
+  pub at-least : (bytes : List ℕ) (a : ℕ) (h : List Call)
+      → Each (λ l. showsClock (parse (withoutEnd l)) ≡ true → (t : ℕ) × ((lineClock l ≡ some t) × (t ≤ clockOf bytes h))) (linesOf bytes a h)
+
+-- A file that is cut.
+
+-- the calls up to the one that gave line k of the archive's file, from 0
+unfoldable pub upToLine : List ℕ → ℕ → ℕ → List Call → List Call
+upToLine bytes a k [] = []
+upToLine bytes a k (call ∷ h) = cond (not (connects bytes a h call) && ltb k (length (linesOf bytes a h))) (upToLine bytes a k h) (call ∷ h)
+
+-- a report
+abbrev pub isReport : News → Bool
+isReport Other = false
+isReport Impossible = false
+isReport (Reported k r) = true
+isReport (SetTo js st) = false
+
+-- a report at the clock t
+abbrev pub isReportAt : ℕ → News → Bool
+isReportAt t Other = false
+isReportAt t Impossible = false
+isReportAt t (Reported k r) = eqb (r .time) t
+isReportAt t (SetTo js st) = false
+
+-- two lines that follow each other may be of one call, which tells more behind the first: reports at one clock, and a report behind a sampling reply with
+-- another strategy than none, whose reports "follow it in the same call, unless it answers a query or sets none"
+abbrev pub goesOn : News → News → Bool
+goesOn Other next = false
+goesOn Impossible next = false
+goesOn (Reported k r) next = isReportAt (r .time) next
+goesOn (SetTo js st) next = not (isNone st) && isReport next
+
+-- the same of a line behind which none is seen
+abbrev pub mayGoOn : News → Bool
+mayGoOn Other = false
+mayGoOn Impossible = false
+mayGoOn (Reported k r) = true
+mayGoOn (SetTo js st) = not (isNone st)
+
+-- what a line leaves open to a reader who sees the lines `seen` behind it
+abbrev pub leavesOpen : Sheet → List ℕ → List (List ℕ) → Bool
+leavesOpen sheet l [] = mayGoOn (lineNews sheet l)
+leavesOpen sheet l (next ∷ seen) = goesOn (lineNews sheet l) (lineNews sheet next)
+
+-- "what (a) says of the lines up to some line holds at the end of the call that gave that line": wherever the file is cut behind the lines `seen`, if the
+-- line l leaves nothing open
+abbrev pub CutTells : Type 0
+CutTells = (bytes : List ℕ) (a : ℕ) (h : List Call) → connectedAtEnd bytes a h ≡ true → (before : List (List ℕ)) (l : List ℕ) (seen unseen : List (List ℕ))
+    → linesOf bytes a h ≡ before ++ (l ∷ (seen ++ unseen)) → leavesOpen (sheetOf bytes) l seen ≡ false → (j : ℕ) → j < sheetOf bytes .count
+    → FileTells (sheetOf bytes) j (before ++ (l ∷ [])) (clockOf bytes (upToLine bytes a (length before) h)) (readingAt bytes j (upToLine bytes a (length before) h))
