@@ -47,6 +47,9 @@ pub mod KnownLaws
 pub mod SettledLaws
 pub mod ArchiveLaws
 pub mod TellsLaws
+pub mod MomentLaws
+pub mod PeakLaws
+pub mod ClockLaws
 pub mod TwoDevices
 pub mod WatchLaws
 pub mod BesideLaws

@@ -56,12 +56,16 @@ known-earlier n now clock x (Differential d) r h k = k
 known-earlier n now clock x (EventRate a b) r h k = λ p. k (omega arith)
 known-earlier n now clock x (DifferentialRate d a b) r h k = λ p. k (omega arith)
 
--- the report that is there, else one that is given
+-- a report that is there
+
 abbrev reportOr : Told → Option Told → Told
 reportOr q none = q
 reportOr q (some r) = r
 
-abbrev isThere : Option Told → Bool
+pub same-report : (q r : Told) → some q ≡ some r → q ≡ r
+same-report q r e = ap (reportOr q) e
+
+abbrev pub isThere : Option Told → Bool
 isThere none = false
 isThere (some r) = true
 
@@ -73,7 +77,7 @@ good-tells n clock x p g = record {
 }
   where
     same : (r : Told) (b : Bool) → cond b (some (toldOf n (p .time) (p .sample))) none ≡ some r → toldOf n (p .time) (p .sample) ≡ r
-    same r true e = ap (reportOr r) e
+    same r true e = same-report _ r e
     same r false e = absurd (true≢false (sym (ap isThere e)))
 
 pub sheet-rules : (bytes : List ℕ) → Sensors (sheetOf bytes)

@@ -1,0 +1,163 @@
+-- Under a differential every valid reading lies within the difference of a valid report that is in the file, and so do the highest of both.
+use Prim.Native.Nat.{ℕ, _+_, _*_, _≤_, _<_}
+use native.Mathlib.Omega.{arith}
+use mathlib.Core.Path.{_≡_, refl, ap, ap₂, sym, _∙_, subst}
+use mathlib.Core.Bool.{Bool, true, false, cond, _&&_, _||_, true≢false}
+use mathlib.Core.List.{List, [], _∷_, _++_, map, append-assoc, append-nil}
+use mathlib.Core.Option.{Option, some}
+use lib.Dec.{eqb, ltb}
+use borrow.Author.Tests.{eqb-true, ltb-true, ltb-false}
+use Rattle.value.specs.declared.Sample.{Sample}
+use Rattle.machine.specs.declared.Sensor.{Sensor}
+use Rattle.machine.specs.declared.Sheet.{Sheet}
+use Rattle.machine.specs.declared.Strategy.the-variants.{Differential}
+use Rattle.machine.specs.Places.{any, has, Each}
+use Rattle.machine.specs.Sheet.{sensorOf}
+use Rattle.machine.specs.Range.{isNone}
+use Rattle.machine.specs.Report.{isValid, apart, width}
+use Rattle.machine.specs.Declined.{Call}
+use Rattle.machine.specs.Reader.{Told, News, Other, Impossible, Reported, SetTo, validStatus, View, viewAfter}
+use Rattle.machine.specs.TwoDevices.{sheetOf, connectedAtEnd, linesOf, strategyOf, clockOf}
+use Rattle.machine.specs.Tells.{lineNews, viewIn, fileView, Near, Known, readingAt, moments, validNumbers, validIn, validReports, highest, UnderDifferential, PeakBounded, TellsAt}
+use Rattle.machine.proofs.TestLaws.{or-in, eqb-refl}
+use Rattle.machine.proofs.SampleRange.{valid-is}
+use Rattle.machine.proofs.PlacesLaws.{each-map}
+use Rattle.machine.proofs.TellsLaws.{tells, same-report, isThere}
+use Rattle.machine.proofs.MomentLaws.{each-moment}
+
+-- Numbers in lists.
+
+has-before : (v : ℕ) (xs ys : List ℕ) → has v xs ≡ true → has v (xs ++ ys) ≡ true
+unfolding has any
+has-before v [] ys h = absurd (true≢false (sym h))
+has-before v (x ∷ xs) ys h = go (eqb v x) h (has-before v xs ys)
+  where
+    go : (b : Bool) → (b || any (eqb v) xs) ≡ true → (any (eqb v) xs ≡ true → any (eqb v) (xs ++ ys) ≡ true) → (b || any (eqb v) (xs ++ ys)) ≡ true
+    go true q ih = refl
+    go false q ih = ih q
+
+has-behind : (v : ℕ) (xs ys : List ℕ) → has v ys ≡ true → has v (xs ++ ys) ≡ true
+unfolding has any
+has-behind v [] ys h = h
+has-behind v (x ∷ xs) ys h = or-in (eqb v x) (any (eqb v) (xs ++ ys)) (has-behind v xs ys h)
+
+highest-has : (v : ℕ) (ns : List ℕ) → has v ns ≡ true → v ≤ highest ns
+unfolding has any highest
+highest-has v [] h = absurd (true≢false (sym h))
+highest-has v (n ∷ ns) h = go (eqb v n) (ltb (highest ns) n) refl refl h (highest-has v ns)
+  where
+    go : (b c : Bool) → eqb v n ≡ b → ltb (highest ns) n ≡ c → (b || any (eqb v) ns) ≡ true → (any (eqb v) ns ≡ true → v ≤ highest ns) → v ≤ cond c n (highest ns)
+    go true true p q r ih = omega (arith, eqb-true v n p)
+    go true false p q r ih = omega (arith, eqb-true v n p, ltb-false (highest ns) n q)
+    go false true p q r ih = omega (arith, ih r, ltb-true (highest ns) n q)
+    go false false p q r ih = ih r
+
+-- The last report is in the file.
+
+module _ (sheet : Sheet) (j : ℕ) where
+  reports-append : (xs ys : List (List ℕ)) → validReports sheet j (xs ++ ys) ≡ validReports sheet j xs ++ validReports sheet j ys
+  unfolding validReports
+  reports-append [] ys = refl
+  reports-append (l ∷ ls) ys = ap (λ t. validIn j (lineNews sheet l) ++ t) (reports-append ls ys) ∙ sym (append-assoc (validIn j (lineNews sheet l)) _ _)
+
+  -- a valid report that a line has just made the last
+  last-of-line : (P : Type 0) (w : News) (v : View) (r : Told) → validStatus (r .status) ≡ true → viewAfter j w v .last ≡ some r
+      → (v .last ≡ some r → P) → (has (r .value) (validIn j w) ≡ true → P) → P
+  unfolding viewAfter has any
+  last-of-line P Other v r ok e old now = old e
+  last-of-line P Impossible v r ok e old now = old e
+  last-of-line P (Reported k s) v r ok e old now = go (eqb k j) e now
+    where
+      go : (b : Bool) → cond b (record { strategy = v .strategy; last = some s }) v .last ≡ some r
+          → (any (eqb (r .value)) (cond (b && validStatus (s .status)) (s .value ∷ []) []) ≡ true → P) → P
+      go true q f = f (rw (same-report s r q, ok, eqb-refl (r .value)))
+      go false q f = old q
+  last-of-line P (SetTo js st) v r ok e old now = go (has j js) e
+    where
+      go : (b : Bool) → cond b (record { strategy = st; last = v .last }) v .last ≡ some r → P
+      go true q = old q
+      go false q = old q
+
+  last-in : (P : Type 0) (ls : List (List ℕ)) (v : View) (r : Told) → validStatus (r .status) ≡ true → viewIn sheet j ls v .last ≡ some r
+      → (v .last ≡ some r → P) → (has (r .value) (validReports sheet j ls) ≡ true → P) → P
+  unfolding viewIn validReports
+  last-in P [] v r ok e old now = old e
+  last-in P (l ∷ ls) v r ok e old now = last-in P ls (viewAfter j (lineNews sheet l) v) r ok e
+      (λ q. last-of-line P (lineNews sheet l) v r ok q old (λ t. now (has-before (r .value) (validIn j (lineNews sheet l)) (validReports sheet j ls) t)))
+      (λ q. now (has-behind (r .value) (validIn j (lineNews sheet l)) (validReports sheet j ls) q))
+
+-- Readings under a differential.
+
+-- a valid reading has a valid report in the file that it lies within the difference of
+abbrev pub Covered : List ℕ → ℕ → ℕ → List (List ℕ) → Sample → Type 0
+Covered bytes j d file x = isValid x ≡ true → (v : ℕ) × ((has v (validReports (sheetOf bytes) j file) ≡ true) × (apart (x .number) v * 1000000 ≤ width (sensorOf (sheetOf bytes) j) d))
+
+-- at a moment whose lines are a start of the file
+covered-then : (bytes : List ℕ) (a j d : ℕ) → j < sheetOf bytes .count → (file : List (List ℕ)) (g : List Call) (rest : List (List ℕ))
+    → connectedAtEnd bytes a g ≡ true → file ≡ linesOf bytes a g ++ rest → strategyOf bytes a j g ≡ Differential d → Covered bytes j d file (readingAt bytes j g)
+unfolding isNone
+covered-then bytes a j d hs file g rest on f st valid =
+    (r .value, (subst (λ ls. has (r .value) (validReports (sheetOf bytes) j ls) ≡ true) (sym f)
+    (rw reports-append (has-before (r .value) (validReports (sheetOf bytes) j (linesOf bytes a g)) _ listed)), near .1 valid))
+  where
+    t : TellsAt bytes a g j
+    t = tells bytes a g on j hs
+
+    n : Sensor
+    n = sensorOf (sheetOf bytes) j
+
+    told : (r : Told) × (fileView (sheetOf bytes) j (linesOf bytes a g) .last ≡ some r)
+    told = t .reading-told .was-reported (ap isNone (t .strategy-told ∙ st))
+
+    r : Told
+    r = told .0
+
+    near : Near n d (readingAt bytes j g) r
+    near = subst (λ st. Known n (clockOf bytes g) (readingAt bytes j g) st r) (t .strategy-told ∙ st) (t .reading-told .tells r (told .1) (clockOf bytes g) (omega arith))
+
+    listed : has (r .value) (validReports (sheetOf bytes) j (linesOf bytes a g)) ≡ true
+    listed = last-in (sheetOf bytes) j (has (r .value) (validReports (sheetOf bytes) j (linesOf bytes a g)) ≡ true) (linesOf bytes a g) _ r
+        (ap validStatus (sym (near .0)) ∙ (sym (valid-is n (readingAt bytes j g)) ∙ valid)) (told .1) (λ q. absurd (true≢false (sym (ap isThere q)))) (λ q. q)
+
+module _ (bytes : List ℕ) (a j d : ℕ) (later h : List Call) (u : UnderDifferential bytes a j d later h) where
+  abbrev file : List (List ℕ)
+  file = linesOf bytes a (later ++ h)
+
+  covered : Each (λ g. strategyOf bytes a j g ≡ Differential d → Covered bytes j d file (readingAt bytes j g)) (moments later h)
+  covered = each-moment bytes a h (λ g. strategyOf bytes a j g ≡ Differential d → Covered bytes j d file (readingAt bytes j g)) file
+      (λ g rest on f st. covered-then bytes a j d (u .on-sheet) file g rest on f st) later [] (u .earlier .same-connection) (u .earlier .at-end) (sym (append-nil file))
+
+  all-covered : Each (Covered bytes j d file) (map (readingAt bytes j) (moments later h))
+  all-covered = each-map (Covered bytes j d file) (readingAt bytes j) (moments later h) (both (moments later h) covered (u .set-since))
+    where
+      both : (gs : List (List Call)) → Each (λ g. strategyOf bytes a j g ≡ Differential d → Covered bytes j d file (readingAt bytes j g)) gs
+          → Each (λ g. strategyOf bytes a j g ≡ Differential d) gs → Each (λ g. Covered bytes j d file (readingAt bytes j g)) gs
+      both [] p q = tt
+      both (g ∷ gs) p q = (p .0 (q .0), both gs (p .1) (q .1))
+
+  highest-covered : (xs : List Sample) → Each (Covered bytes j d file) xs
+      → highest (validNumbers xs) * 1000000 ≤ highest (validReports (sheetOf bytes) j file) * 1000000 + width (sensorOf (sheetOf bytes) j) d
+  unfolding highest
+  highest-covered [] p = omega arith
+  highest-covered (x ∷ xs) p = go (isValid x) refl (highest-covered xs (p .1))
+    where
+      top : ℕ
+      top = highest (validReports (sheetOf bytes) j file) * 1000000 + width (sensorOf (sheetOf bytes) j) d
+
+      one : isValid x ≡ true → x .number * 1000000 ≤ top
+      one e = let c = p .0 e in omega (arith, c .1 .1, highest-has (c .0) (validReports (sheetOf bytes) j file) (c .1 .0))
+
+      go : (b : Bool) → isValid x ≡ b → highest (validNumbers xs) * 1000000 ≤ top → highest (cond b (x .number ∷ validNumbers xs) (validNumbers xs)) * 1000000 ≤ top
+      go false e ih = ih
+      go true e ih = higher (ltb (highest (validNumbers xs)) (x .number))
+        where
+          higher : (c : Bool) → cond c (x .number) (highest (validNumbers xs)) * 1000000 ≤ top
+          higher true = one e
+          higher false = ih
+
+-- peaks
+pub peak-bounded : PeakBounded
+peak-bounded = record {
+  within = λ bytes a j d later h u. all-covered bytes a j d later h u;
+  peak = λ bytes a j d later h u. highest-covered bytes a j d later h u (map (readingAt bytes j) (moments later h)) (all-covered bytes a j d later h u);
+}
