@@ -50,6 +50,7 @@ pub mod TellsLaws
 pub mod MomentLaws
 pub mod PeakLaws
 pub mod ClockLaws
+pub mod AutoLaws
 pub mod TwoDevices
 pub mod WatchLaws
 pub mod BesideLaws

@@ -12,7 +12,7 @@ use Rattle.machine.proofs.TellsLaws.{tells}
 
 module _ (bytes : List ℕ) (a : ℕ) where
   -- a call that is no connect of the archive leaves it connected only if it was
-  still-on : (call : Call) (h : List Call) → connects bytes a h call ≡ false → connectedAtEnd bytes a (call ∷ h) ≡ true → connectedAtEnd bytes a h ≡ true
+  pub still-on : (call : Call) (h : List Call) → connects bytes a h call ≡ false → connectedAtEnd bytes a (call ∷ h) ≡ true → connectedAtEnd bytes a h ≡ true
   unfolding connectedAtEnd
   still-on call h e on = go (connects bytes a h call) ((returnedZero bytes h call && isDisconnect a (call .action)) || endsAll (call .action) (packetsOf bytes h call)) e on
     where

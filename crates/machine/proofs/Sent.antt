@@ -35,6 +35,7 @@ use Rattle.machine.proofs.SheetLaws.{Sensors}
 use Rattle.machine.proofs.RangeLaws.{InRange, range-out, sensors-of}
 use Rattle.machine.proofs.StepLaws.{by-cases, accepted, declined-in-range, client-fits, asks-is, unknown-is, by-asking}
 use Rattle.machine.proofs.SampleRange.{given-fits, Reportable, reportable-tick, reportable-reading}
+use Rattle.machine.proofs.LineLengths.{Sound}
 use Rattle.machine.proofs.DeliveryLengths.{Served, served, length-line, Sendable, sendable, nothing-sent, one-sent, one-length, where-length, served-where}
 use Rattle.machine.proofs.SentSizes.{sound-protocol, sound-device, sound-newcomer, sound-entry, sound-report, sound-refusal, sound-refusal-entry}
 use Rattle.machine.proofs.SentAnswers.{titles-short, answer-sent}
@@ -177,12 +178,12 @@ step-sent s call = by-cases (λ (e : Effect). Sendable (e .sent)) s call
     (λ e. let a = accepted s call e in perform-sent s (range-out s (a .in-range)) (call .action) (a .fits))
     (λ n e. refusal-sent s (suc n) (call .action) (λ h. (declined-in-range s call n e (omega arith), action-declines s call (suc n) e h)))
 
-well-formed : (d : Delivery) → Served 2048 d → WellFormed (d .message)
-well-formed d h = let k = h .sound .head in
-    record { kind = k .kind; letters = k .letters; name = k .name; id = k .id; fits = h .sound .length-most }
+pub sound-well-formed : (most : ℕ) (m : Message) → most ≤ 2048 → Sound most m → WellFormed m
+sound-well-formed most m h s = let k = s .head in
+    record { kind = k .kind; letters = k .letters; name = k .name; id = k .id; fits = omega (arith, s .length-most) }
 
 pub sent-well-formed : (s : State) (call : Call) → Each (λ (d : Delivery). WellFormed (d .message)) (step s call .sent)
-sent-well-formed s call = each-weaker (Served 2048) (λ (d : Delivery). WellFormed (d .message)) well-formed (step s call .sent) (step-sent s call .all-served)
+sent-well-formed s call = each-weaker (Served 2048) (λ (d : Delivery). WellFormed (d .message)) (λ d h. sound-well-formed 2048 (d .message) (omega arith) (h .sound)) (step s call .sent) (step-sent s call .all-served)
 
 pub sent-to-clients : SentToClients
 sent-to-clients s call = each-weaker (Served 2048) (λ (d : Delivery). d .client < 8) (λ d h. h .client-below) (step s call .sent) (step-sent s call .all-served)

@@ -171,8 +171,8 @@ reportGiven bytes j r h = line (report (clockOf bytes h) (sensorOf (sheetOf byte
 -- "Under auto every accepted reading since the setting is a line of the file": the one line that its call gives the archive, behind those before it; and
 -- the line tells that reading, at that clock
 pub record AutoShows : Type 0 where
-  pub own-line : (bytes : List ℕ) (a j : ℕ) → j < sheetOf bytes .count → (r : Given) (lent : List ℕ) (later h : List Call)
-      → Earlier bytes a later (callOf (Reading j r) lent ∷ h) → returnedZero bytes h (callOf (Reading j r) lent) ≡ true → strategyOf bytes a j h ≡ Auto
+  pub own-line : (bytes : List ℕ) (a j : ℕ) → j < sheetOf bytes .count → (r : Given) (lent : List ℕ) (h : List Call)
+      → connectedAtEnd bytes a h ≡ true → returnedZero bytes h (callOf (Reading j r) lent) ≡ true → strategyOf bytes a j h ≡ Auto
       → linesOf bytes a (callOf (Reading j r) lent ∷ h) ≡ linesOf bytes a h ++ (reportGiven bytes j r h ∷ [])
   pub in-file : (bytes : List ℕ) (a j : ℕ) → j < sheetOf bytes .count → (r : Given) (lent : List ℕ) (later h : List Call)
       → Earlier bytes a later (callOf (Reading j r) lent ∷ h) → returnedZero bytes h (callOf (Reading j r) lent) ≡ true → strategyOf bytes a j h ≡ Auto
