@@ -51,6 +51,7 @@ pub mod MomentLaws
 pub mod PeakLaws
 pub mod ClockLaws
 pub mod AutoLaws
+pub mod CutLaws
 pub mod TwoDevices
 pub mod WatchLaws
 pub mod BesideLaws
