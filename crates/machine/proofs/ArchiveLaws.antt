@@ -68,21 +68,16 @@ later-later : (x y z : Option Told) → later (later x y) z ≡ later x (later y
 later-later none y z = refl
 later-later (some r) y z = refl
 
-module _ (sheet : Sheet) (j : ℕ) where
-  set-last : (js : List ℕ) (st : Strategy) (v : View) → viewAfter j (SetTo js st) v .last ≡ v .last
-  unfolding viewAfter
-  set-last js st v = cond-either (λ (u : View). u .last ≡ v .last) (has j js) (record { strategy = st; last = v .last }) v refl refl
+-- a sampling reply tells a strategy, or is one that no device writes
+module _ (sheet : Sheet) (P : News → Type 0) (impossible : P Impossible) (set : (js : List ℕ) (st : Strategy) → P (SetTo js st)) where
+  with-either : (js : List ℕ) (k : ℕ) (o : Option (List ℕ)) → P (setWith sheet js k o)
+  with-either js k none = impossible
+  with-either js k (some ns) = cond-either P (all (λ i. strategyOk (sensorOf sheet i .kind) (strategyBy k ns)) js) (SetTo js (strategyBy k ns)) Impossible (set js (strategyBy k ns)) impossible
 
-  with-last : (js : List ℕ) (k : ℕ) (o : Option (List ℕ)) (v : View) → viewAfter j (setWith sheet js k o) v .last ≡ v .last
-  unfolding viewAfter
-  with-last js k none v = refl
-  with-last js k (some ns) v = cond-either (λ w. viewAfter j w v .last ≡ v .last) (all (λ i. strategyOk (sensorOf sheet i .kind) (strategyBy k ns)) js) (SetTo js (strategyBy k ns)) Impossible
-      (set-last js (strategyBy k ns) v) refl
-
-  strategy-last : (js : List ℕ) (args : List (List ℕ)) (v : View) → viewAfter j (strategyNews sheet js args) v .last ≡ v .last
-  unfolding viewAfter strategyNews
-  strategy-last js args v = cond-either (λ w. viewAfter j w v .last ≡ v .last)
-      (not (any (notOnSheet sheet) js) && (not (twice js) && (ltb k 7 && eqb (length args) (1 + parameterCount k)))) (setWith sheet js k numbers) Impossible (with-last js k numbers v) refl
+  strategy-either : (js : List ℕ) (args : List (List ℕ)) → P (strategyNews sheet js args)
+  unfolding strategyNews
+  strategy-either js args = cond-either P
+      (not (any (notOnSheet sheet) js) && (not (twice js) && (ltb k 7 && eqb (length args) (1 + parameterCount k)))) (setWith sheet js k numbers) Impossible (with-either js k numbers) impossible
     where
       k : ℕ
       k = strategyNamed (getD args 0 [])
@@ -90,10 +85,19 @@ module _ (sheet : Sheet) (j : ℕ) where
       numbers : Option (List ℕ)
       numbers = allNumbers (parametersRead (firstOf sheet js) k (drop 1 args))
 
+  pub sampling-either : (m : Message) → P (samplingNews sheet m)
+  unfolding samplingNews
+  sampling-either m = strategy-either _ (drop 2 (m .args))
+
+module _ (sheet : Sheet) (j : ℕ) where
+  set-last : (js : List ℕ) (st : Strategy) (v : View) → viewAfter j (SetTo js st) v .last ≡ v .last
+  unfolding viewAfter
+  set-last js st v = cond-either (λ (u : View). u .last ≡ v .last) (has j js) (record { strategy = st; last = v .last }) v refl refl
+
   -- a sampling reply is no report
   sampling-last : (m : Message) (v : View) → viewAfter j (samplingNews sheet m) v .last ≡ v .last
-  unfolding samplingNews
-  sampling-last m v = strategy-last _ (drop 2 (m .args)) v
+  unfolding viewAfter
+  sampling-last m v = sampling-either sheet (λ w. viewAfter j w v .last ≡ v .last) refl (λ js st. set-last js st v) m
 
   other-last : (v : View) → viewAfter j Other v .last ≡ v .last
   unfolding viewAfter

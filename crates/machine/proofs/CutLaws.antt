@@ -20,7 +20,7 @@ use Rattle.machine.specs.Declined.{Call}
 use Rattle.machine.specs.Machine.{step}
 use Rattle.machine.specs.Reader.{Told, News, Other, Impossible, Reported, SetTo, news, View, viewAfter, noView}
 use Rattle.machine.specs.TwoDevices.{after, sheetOf, packetsOf, connects, connectedAtEnd, linesTo, linesOf, sentTo, clockOf}
-use Rattle.machine.specs.Tells.{newsIn, lineNews, viewIn, fileView, ViewTells, FileTells, readingAt, upToLine, goesOn, mayGoOn, leavesOpen, CutTells}
+use Rattle.machine.specs.Tells.{newsIn, lineNews, viewIn, fileView, ViewTells, FileTells, readingAt, upToLine, goesOn, mayGoOn, leavesOpen}
 use Rattle.machine.proofs.TestLaws.{and-true, and-false, cond-either, cond-cases}
 use Rattle.machine.proofs.PlacesLaws.{each-behind}
 use Rattle.machine.proofs.QuietLaws.{Silent}
@@ -29,7 +29,7 @@ use Rattle.machine.proofs.FileLaws.{line-parses}
 use Rattle.machine.proofs.Sent.{sent-well-formed}
 use Rattle.machine.proofs.ListLaws.{sheet-is, sent-packets}
 use Rattle.machine.proofs.ArchiveLaws.{lines-packed, each-to}
-use Rattle.machine.proofs.TellsLaws.{tells}
+use Rattle.machine.proofs.TellsLaws.{view-in-append, tells}
 use Rattle.machine.proofs.MomentLaws.{still-on, more-lines}
 
 -- Lists that are cut in two ways.
@@ -62,11 +62,6 @@ module _ (sheet : Sheet) where
   abbrev LineAt : ℕ → List ℕ → Type 0
   LineAt t l = (k : ℕ) × ((r : Told) × ((lineNews sheet l ≡ Reported k r) × (r .time ≡ t)))
 
-  view-in-append : (j : ℕ) (xs ys : List (List ℕ)) (v : View) → viewIn sheet j (xs ++ ys) v ≡ viewIn sheet j ys (viewIn sheet j xs v)
-  unfolding viewIn
-  view-in-append j [] ys v = refl
-  view-in-append j (l ∷ ls) ys v = view-in-append j ls ys (viewAfter j (lineNews sheet l) v)
-
   view-still : (j : ℕ) (ls : List (List ℕ)) (v : View) → Each Still ls → viewIn sheet j ls v ≡ v
   unfolding viewIn viewAfter
   view-still j [] v h = refl
@@ -78,7 +73,7 @@ module _ (sheet : Sheet) where
   lines-say Q (m ∷ ms) w h = (subst (λ p. Q (newsIn sheet p)) (sym (line-parses m (w .0))) (h .0), lines-say Q ms (w .1) (h .1))
 
   -- the next line may be of the same call
-  abbrev opens : List ℕ → List (List ℕ) → Bool
+  abbrev pub opens : List ℕ → List (List ℕ) → Bool
   opens l [] = false
   opens l (next ∷ rest) = goesOn (lineNews sheet l) (lineNews sheet next)
 
@@ -143,7 +138,7 @@ module _ (bytes : List ℕ) (a : ℕ) where
 
   module _ (j : ℕ) (hs : j < sheetOf bytes .count) (before : List (List ℕ)) (l : List ℕ) where
     -- what the lines up to l tell holds behind the calls g
-    abbrev Concluded : List Call → Type 0
+    abbrev pub Concluded : List Call → Type 0
     Concluded g = FileTells (sheetOf bytes) j (before ++ (l ∷ [])) (clockOf bytes g) (readingAt bytes j g)
 
     -- of a call that gave the line l: its further lines tell nothing
@@ -160,7 +155,7 @@ module _ (bytes : List ℕ) (a : ℕ) where
             ∙ view-still (sheetOf bytes) j behind _ (lines-settle h call (parts .0) l behind (parts .1 .1) f))
 
     -- of a call behind it
-    abbrev Before : List Call → Type 0
+    abbrev pub Before : List Call → Type 0
     Before h = (behind : List (List ℕ)) → connectedAtEnd bytes a h ≡ true → linesOf bytes a h ≡ before ++ (l ∷ behind) → opens (sheetOf bytes) l behind ≡ false
         → Concluded (upToLine bytes a (length before) h)
 
@@ -175,7 +170,7 @@ module _ (bytes : List ℕ) (a : ℕ) where
         shorter [] q = refl
         shorter (next ∷ mid) q = q
 
-    cut-at : (h : List Call) → Before h
+    pub cut-at : (h : List Call) → Before h
     unfolding upToLine connectedAtEnd
     cut-at [] behind c e f = absurd (true≢false (sym c))
     cut-at (call ∷ h) behind c e f = cond-cases Concluded (not (connects bytes a h call) && ltb (length before) (length (linesOf bytes a h))) (upToLine bytes a (length before) h) (call ∷ h)
@@ -194,11 +189,7 @@ may-not Impossible next h = refl
 may-not (Reported k r) next h = absurd (true≢false h)
 may-not (SetTo js st) next h = rw h
 
-closed : (sheet : Sheet) (l : List ℕ) (seen unseen : List (List ℕ)) → leavesOpen sheet l seen ≡ false → opens sheet l (seen ++ unseen) ≡ false
+pub closed : (sheet : Sheet) (l : List ℕ) (seen unseen : List (List ℕ)) → leavesOpen sheet l seen ≡ false → opens sheet l (seen ++ unseen) ≡ false
 closed sheet l [] [] h = refl
 closed sheet l [] (next ∷ unseen) h = may-not (lineNews sheet l) (lineNews sheet next) h
 closed sheet l (next ∷ seen) unseen h = h
-
--- a file that is cut
-pub cut-tells : CutTells
-cut-tells bytes a h c before l seen unseen e open-not j hs = cut-at bytes a j hs before l h (seen ++ unseen) c e (closed (sheetOf bytes) l seen unseen open-not)

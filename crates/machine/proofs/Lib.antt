@@ -52,6 +52,7 @@ pub mod PeakLaws
 pub mod ClockLaws
 pub mod AutoLaws
 pub mod CutLaws
+pub mod CutTells
 pub mod TwoDevices
 pub mod WatchLaws
 pub mod BesideLaws

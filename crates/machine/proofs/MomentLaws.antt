@@ -44,17 +44,18 @@ module _ (bytes : List ℕ) (a : ℕ) where
         let new = linesTo a (packetsOf bytes (later ++ h) call) in
         (s .0 ++ new, more-lines call (later ++ h) (q .0) ∙ (ap (λ l. l ++ new) (s .1) ∙ append-assoc (linesOf bytes a h) (s .0) new))
 
-    -- what holds of every moment whose lines are a start of the file holds of each from h on
+    -- what holds of every moment from h on: its lines are those of h and some more, and a start of the file
     pub each-moment : (P : List Call → Type 0) (file : List (List ℕ))
-        → ((g : List Call) (rest : List (List ℕ)) → connectedAtEnd bytes a g ≡ true → file ≡ linesOf bytes a g ++ rest → P g)
+        → ((g : List Call) (more rest : List (List ℕ)) → connectedAtEnd bytes a g ≡ true → linesOf bytes a g ≡ linesOf bytes a h ++ more → file ≡ linesOf bytes a g ++ rest → P g)
         → (later : List Call) (rest : List (List ℕ)) → connectsIn bytes a later h ≡ false → connectedAtEnd bytes a (later ++ h) ≡ true
         → file ≡ linesOf bytes a (later ++ h) ++ rest → Each P (moments later h)
-    each-moment P file holds [] rest e on f = (holds h rest on f, tt)
+    each-moment P file holds [] rest e on f = (holds h [] rest on (sym (append-nil (linesOf bytes a h))) f, tt)
     each-moment P file holds (call ∷ later) rest e on f =
         let q = first-not call later e in
+        let s = start-of (call ∷ later) e in
         let new = linesTo a (packetsOf bytes (later ++ h) call) in
         (
-          holds (call ∷ (later ++ h)) rest on f,
+          holds (call ∷ (later ++ h)) (s .0) rest on (s .1) f,
           each-moment P file holds later (new ++ rest) (q .1) (still-on call (later ++ h) (q .0) on)
               (f ∙ (ap (λ l. l ++ rest) (more-lines call (later ++ h) (q .0)) ∙ append-assoc (linesOf bytes a (later ++ h)) new rest)),
         )

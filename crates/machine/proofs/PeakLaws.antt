@@ -3,26 +3,27 @@ use Prim.Native.Nat.{ℕ, _+_, _*_, _≤_, _<_}
 use native.Mathlib.Omega.{arith}
 use mathlib.Core.Path.{_≡_, refl, ap, ap₂, sym, _∙_, subst}
 use mathlib.Core.Bool.{Bool, true, false, cond, _&&_, _||_, true≢false}
-use mathlib.Core.List.{List, [], _∷_, _++_, map, append-assoc, append-nil}
+use mathlib.Core.List.{List, [], _∷_, _++_, map, append-assoc, append-nil, append-cancel-left}
 use mathlib.Core.Option.{Option, some}
 use lib.Dec.{eqb, ltb}
 use borrow.Author.Tests.{eqb-true, ltb-true, ltb-false}
 use Rattle.value.specs.declared.Sample.{Sample}
 use Rattle.machine.specs.declared.Sensor.{Sensor}
 use Rattle.machine.specs.declared.Sheet.{Sheet}
+use Rattle.machine.specs.declared.Strategy.{Strategy}
 use Rattle.machine.specs.declared.Strategy.the-variants.{Differential}
 use Rattle.machine.specs.Places.{any, has, Each}
 use Rattle.machine.specs.Sheet.{sensorOf}
 use Rattle.machine.specs.Range.{isNone}
 use Rattle.machine.specs.Report.{isValid, apart, width}
 use Rattle.machine.specs.Declined.{Call}
-use Rattle.machine.specs.Reader.{Told, News, Other, Impossible, Reported, SetTo, validStatus, View, viewAfter}
+use Rattle.machine.specs.Reader.{Told, News, Other, Impossible, Reported, SetTo, validStatus, View, viewAfter, noView}
 use Rattle.machine.specs.TwoDevices.{sheetOf, connectedAtEnd, linesOf, strategyOf, clockOf}
-use Rattle.machine.specs.Tells.{lineNews, viewIn, fileView, Near, Known, readingAt, moments, validNumbers, validIn, validReports, highest, UnderDifferential, PeakBounded, TellsAt}
-use Rattle.machine.proofs.TestLaws.{or-in, eqb-refl}
+use Rattle.machine.specs.Tells.{lineNews, viewIn, fileView, Near, Known, readingAt, moments, validNumbers, validIn, validReports, highest, UnderDifferential, KeepsStrategy, PeakBounded, TellsAt}
+use Rattle.machine.proofs.TestLaws.{or-in, eqb-refl, cond-either, cond-cases}
 use Rattle.machine.proofs.SampleRange.{valid-is}
-use Rattle.machine.proofs.PlacesLaws.{each-map}
-use Rattle.machine.proofs.TellsLaws.{tells, same-report, isThere}
+use Rattle.machine.proofs.PlacesLaws.{each-map, each-front}
+use Rattle.machine.proofs.TellsLaws.{view-in-append, tells, same-report, isThere}
 use Rattle.machine.proofs.MomentLaws.{each-moment}
 
 -- Numbers in lists.
@@ -125,7 +126,7 @@ module _ (bytes : List ℕ) (a j d : ℕ) (later h : List Call) (u : UnderDiffer
 
   covered : Each (λ g. strategyOf bytes a j g ≡ Differential d → Covered bytes j d file (readingAt bytes j g)) (moments later h)
   covered = each-moment bytes a h (λ g. strategyOf bytes a j g ≡ Differential d → Covered bytes j d file (readingAt bytes j g)) file
-      (λ g rest on f st. covered-then bytes a j d (u .on-sheet) file g rest on f st) later [] (u .earlier .same-connection) (u .earlier .at-end) (sym (append-nil file))
+      (λ g more rest on m f st. covered-then bytes a j d (u .on-sheet) file g rest on f st) later [] (u .earlier .same-connection) (u .earlier .at-end) (sym (append-nil file))
 
   all-covered : Each (Covered bytes j d file) (map (readingAt bytes j) (moments later h))
   all-covered = each-map (Covered bytes j d file) (readingAt bytes j) (moments later h) (both (moments later h) covered (u .set-since))
@@ -155,9 +156,42 @@ module _ (bytes : List ℕ) (a j d : ℕ) (later h : List Call) (u : UnderDiffer
           higher true = one e
           higher false = ih
 
+-- The file shows what is set.
+
+module _ (sheet : Sheet) (j : ℕ) (st : Strategy) where
+  kept-by : (w : News) (v : View) → v .strategy ≡ st → KeepsStrategy j st w → viewAfter j w v .strategy ≡ st
+  unfolding viewAfter
+  kept-by Other v e k = e
+  kept-by Impossible v e k = e
+  kept-by (Reported i r) v e k = cond-either (λ (x : View). x .strategy ≡ st) (eqb i j) (record { strategy = v .strategy; last = some r }) v e e
+  kept-by (SetTo js new) v e k = cond-cases (λ (x : View). x .strategy ≡ st) (has j js) (record { strategy = new; last = v .last }) v k (λ _. e)
+
+  kept-in : (ls : List (List ℕ)) (v : View) → v .strategy ≡ st → Each (λ l. KeepsStrategy j st (lineNews sheet l)) ls → viewIn sheet j ls v .strategy ≡ st
+  unfolding viewIn
+  kept-in [] v e k = e
+  kept-in (l ∷ ls) v e k = kept-in ls _ (kept-by (lineNews sheet l) v e (k .0)) (k .1)
+
+set-at : (bytes : List ℕ) (a j d : ℕ) → j < sheetOf bytes .count → (h g : List Call) (more rest behind : List (List ℕ)) → connectedAtEnd bytes a g ≡ true
+    → linesOf bytes a g ≡ linesOf bytes a h ++ more → linesOf bytes a h ++ behind ≡ linesOf bytes a g ++ rest
+    → fileView (sheetOf bytes) j (linesOf bytes a h) .strategy ≡ Differential d → Each (λ l. KeepsStrategy j (Differential d) (lineNews (sheetOf bytes) l)) behind
+    → strategyOf bytes a j g ≡ Differential d
+set-at bytes a j d hs h g more rest behind on m f st k =
+    sym (tells bytes a g on j hs .strategy-told)
+    ∙ (ap (λ ls. fileView (sheetOf bytes) j ls .strategy) m ∙ (ap (λ (v : View). v .strategy) (view-in-append (sheetOf bytes) j (linesOf bytes a h) more noView)
+    ∙ kept-in (sheetOf bytes) j (Differential d) more _ st (each-front _ more rest (subst (Each (λ l. KeepsStrategy j (Differential d) (lineNews (sheetOf bytes) l))) split k))))
+  where
+    split : behind ≡ more ++ rest
+    split = append-cancel-left (linesOf bytes a h) behind (more ++ rest) (f ∙ (ap (λ l. l ++ rest) m ∙ append-assoc (linesOf bytes a h) more rest))
+
 -- peaks
 pub peak-bounded : PeakBounded
 peak-bounded = record {
   within = λ bytes a j d later h u. all-covered bytes a j d later h u;
   peak = λ bytes a j d later h u. highest-covered bytes a j d later h u (map (readingAt bytes j) (moments later h)) (all-covered bytes a j d later h u);
+  as-shown = λ bytes a j d later h behind e hs f st k. record {
+    earlier = e;
+    on-sheet = hs;
+    set-since = each-moment bytes a h (λ g. strategyOf bytes a j g ≡ Differential d) (linesOf bytes a h ++ behind)
+        (λ g more rest on m f. set-at bytes a j d hs h g more rest behind on m f st k) later [] (e .same-connection) (e .at-end) (sym f ∙ sym (append-nil (linesOf bytes a (later ++ h))));
+  };
 }

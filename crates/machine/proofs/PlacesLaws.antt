@@ -44,6 +44,10 @@ module _ {A : Type 0} where
   each-append P [] ys h k = k
   each-append P (x ∷ xs) ys h k = (h .0, each-append P xs ys (h .1) k)
 
+  pub each-front : (P : A → Type 0) (xs ys : List A) → Each P (xs ++ ys) → Each P xs
+  each-front P [] ys h = tt
+  each-front P (x ∷ xs) ys h = (h .0, each-front P xs ys (h .1))
+
   pub each-behind : (P : A → Type 0) (xs ys : List A) → Each P (xs ++ ys) → Each P ys
   each-behind P [] ys h = h
   each-behind P (x ∷ xs) ys h = each-behind P xs ys (h .1)

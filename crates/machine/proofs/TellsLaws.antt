@@ -3,7 +3,7 @@ use Prim.Native.Nat.{ℕ, _-_, _≤_, _<_}
 use native.Mathlib.Omega.{arith}
 use mathlib.Core.Path.{_≡_, refl, ap, sym, _∙_, subst}
 use mathlib.Core.Bool.{Bool, true, false, cond, true≢false}
-use mathlib.Core.List.{List, [], _∷_, map}
+use mathlib.Core.List.{List, [], _∷_, _++_, map}
 use mathlib.Core.Option.{Option, none, some}
 use Rattle.message.specs.Message.{Message, line}
 use Rattle.message.specs.Delivery.{Delivery}
@@ -21,7 +21,7 @@ use Rattle.machine.specs.Declined.{Call}
 use Rattle.machine.specs.Machine.{step}
 use Rattle.machine.specs.Reader.{Told, Impossible, news, View, viewAfter, viewBy, noView, viewOf, standing, toldOf}
 use Rattle.machine.specs.TwoDevices.{after, sheetOf, connectedAtEnd, linesOf, messagesOf, strategyOf, lastReport, later, clockOf}
-use Rattle.machine.specs.Tells.{newsIn, viewIn, fileView, Known, ViewTells, readingAt, TellsAt, Tells}
+use Rattle.machine.specs.Tells.{newsIn, lineNews, viewIn, fileView, Known, ViewTells, readingAt, TellsAt, Tells}
 use Rattle.machine.proofs.SheetLaws.{Sensors, sensors-out}
 use Rattle.machine.proofs.OpenedRange.{opened-range}
 use Rattle.machine.proofs.Impossible.{never-impossible}
@@ -39,6 +39,11 @@ pub view-lines : (sheet : Sheet) (j : ℕ) (ms : List Message) (v : View) → Ea
 unfolding viewIn viewBy
 view-lines sheet j [] v w = refl
 view-lines sheet j (m ∷ ms) v w = ap (λ p. viewIn sheet j (map line ms) (viewAfter j (newsIn sheet p) v)) (line-parses m (w .0)) ∙ view-lines sheet j ms _ (w .1)
+
+pub view-in-append : (sheet : Sheet) (j : ℕ) (xs ys : List (List ℕ)) (v : View) → viewIn sheet j (xs ++ ys) v ≡ viewIn sheet j ys (viewIn sheet j xs v)
+unfolding viewIn
+view-in-append sheet j [] ys v = refl
+view-in-append sheet j (l ∷ ls) ys v = view-in-append sheet j ls ys (viewAfter j (lineNews sheet l) v)
 
 later-none : (o : Option Told) → later o none ≡ o
 later-none none = refl

@@ -26,7 +26,7 @@ use Rattle.machine.specs.Report.{isValid, apart, width}
 use Rattle.machine.specs.Requests.{argument}
 use Rattle.machine.specs.Declined.{Reading, Call, callOf}
 use Rattle.machine.specs.Machine.{sampleGiven}
-use Rattle.machine.specs.Reader.{Told, News, Other, Impossible, Reported, SetTo, news, isNamed, validStatus, View, viewAfter, noView, toldOf}
+use Rattle.machine.specs.Reader.{Told, News, Other, Impossible, Reported, SetTo, news, isNamed, isOk, validStatus, View, viewAfter, noView, toldOf}
 use Rattle.machine.specs.TwoDevices.{sheetOf, returnedZero, connects, connectedAtEnd, linesOf, linesTo, packetsOf, withoutEnd, strategyOf, lastReport, lastReading, sampleFrom, clockOf}
 
 -- The reader of a file.
@@ -152,8 +152,16 @@ pub record UnderDifferential (bytes : List ℕ) (a j d : ℕ) (later h : List Ca
   pub on-sheet : j < sheetOf bytes .count
   pub set-since : Each (λ g. strategyOf bytes a j g ≡ Differential d) (moments later h)
 
--- "every valid reading since a differential was set lies within the difference of the report that stood then", which is in the file; "the highest valid
--- reading is at most the highest valid report plus the difference", on the scale of `width`
+-- a line that names sensor j with no other strategy than st
+abbrev pub KeepsStrategy : ℕ → Strategy → News → Type 0
+KeepsStrategy j st Other = Unit
+KeepsStrategy j st Impossible = Unit
+KeepsStrategy j st (Reported k r) = Unit
+KeepsStrategy j st (SetTo js new) = has j js ≡ true → new ≡ st
+
+-- `within`: "every valid reading since a differential was set lies within the difference of the report that stood then", which is in the file.
+-- `peak`: "the highest valid reading is at most the highest valid report plus the difference", on the scale of `width`.
+-- `as-shown`: the file shows the assumption: its lines up to h set this differential, and those behind name the sensor with no other.
 pub record PeakBounded : Type 0 where
   pub within : (bytes : List ℕ) (a j d : ℕ) (later h : List Call) → UnderDifferential bytes a j d later h
       → Each (λ x. isValid x ≡ true → (v : ℕ) × ((has v (validReports (sheetOf bytes) j (linesOf bytes a (later ++ h))) ≡ true)
@@ -161,6 +169,9 @@ pub record PeakBounded : Type 0 where
   pub peak : (bytes : List ℕ) (a j d : ℕ) (later h : List Call) → UnderDifferential bytes a j d later h
       → highest (validNumbers (map (readingAt bytes j) (moments later h))) * 1000000
       ≤ highest (validReports (sheetOf bytes) j (linesOf bytes a (later ++ h))) * 1000000 + width (sensorOf (sheetOf bytes) j) d
+  pub as-shown : (bytes : List ℕ) (a j d : ℕ) (later h : List Call) (behind : List (List ℕ)) → Earlier bytes a later h → j < sheetOf bytes .count
+      → linesOf bytes a (later ++ h) ≡ linesOf bytes a h ++ behind → fileView (sheetOf bytes) j (linesOf bytes a h) .strategy ≡ Differential d
+      → Each (λ l. KeepsStrategy j (Differential d) (lineNews (sheetOf bytes) l)) behind → UnderDifferential bytes a j d later h
 
 -- Auto.
 
@@ -250,9 +261,31 @@ abbrev pub leavesOpen : Sheet → List ℕ → List (List ℕ) → Bool
 leavesOpen sheet l [] = mayGoOn (lineNews sheet l)
 leavesOpen sheet l (next ∷ seen) = goesOn (lineNews sheet l) (lineNews sheet next)
 
--- "what (a) says of the lines up to some line holds at the end of the call that gave that line": wherever the file is cut behind the lines `seen`, if the
--- line l leaves nothing open
-abbrev pub CutTells : Type 0
-CutTells = (bytes : List ℕ) (a : ℕ) (h : List Call) → connectedAtEnd bytes a h ≡ true → (before : List (List ℕ)) (l : List ℕ) (seen unseen : List (List ℕ))
-    → linesOf bytes a h ≡ before ++ (l ∷ (seen ++ unseen)) → leavesOpen (sheetOf bytes) l seen ≡ false → (j : ℕ) → j < sheetOf bytes .count
-    → FileTells (sheetOf bytes) j (before ++ (l ∷ [])) (clockOf bytes (upToLine bytes a (length before) h)) (readingAt bytes j (upToLine bytes a (length before) h))
+-- the clock of the next line that shows one
+abbrev pub nextClock : List (List ℕ) → Option ℕ
+nextClock [] = none
+nextClock (l ∷ ls) = cond (showsClock (parse (withoutEnd l))) (lineClock l) (nextClock ls)
+
+-- a line that is a sampling reply with `ok`
+abbrev pub isSamplingOk : Parse → Bool
+isSamplingOk malformed = false
+isSamplingOk (message m) = isOk (text "sensor-sampling") m
+
+-- what the lines `before` and l tell of sensor j holds at the end of the call that gave l
+abbrev pub HoldsUpTo : List ℕ → ℕ → List Call → List (List ℕ) → List ℕ → ℕ → Type 0
+HoldsUpTo bytes a h before l j = FileTells (sheetOf bytes) j (before ++ (l ∷ []))
+    (clockOf bytes (upToLine bytes a (length before) h)) (readingAt bytes j (upToLine bytes a (length before) h))
+
+-- `cut`: "what (a) says of the lines up to some line holds at the end of the call that gave that line", wherever the file is cut behind the lines `seen`, if
+-- that line leaves nothing open.
+-- `whole`: and "the file ends there, whole".
+-- `by-clock`: nothing is left open "if that line is not a `sensor-sampling` reply with `ok` and the next line that shows a clock shows a later one than every
+-- line before it".
+pub record CutTells : Type 0 where
+  pub cut : (bytes : List ℕ) (a : ℕ) (h : List Call) → connectedAtEnd bytes a h ≡ true → (before : List (List ℕ)) (l : List ℕ) (seen unseen : List (List ℕ))
+      → linesOf bytes a h ≡ before ++ (l ∷ (seen ++ unseen)) → leavesOpen (sheetOf bytes) l seen ≡ false → (j : ℕ) → j < sheetOf bytes .count
+      → HoldsUpTo bytes a h before l j
+  pub whole : (bytes : List ℕ) (a : ℕ) (h : List Call) → connectedAtEnd bytes a h ≡ true → (before : List (List ℕ)) (l : List ℕ)
+      → linesOf bytes a h ≡ before ++ (l ∷ []) → (j : ℕ) → j < sheetOf bytes .count → HoldsUpTo bytes a h before l j
+  pub by-clock : (sheet : Sheet) (before : List (List ℕ)) (l : List ℕ) (seen : List (List ℕ)) (t : ℕ) → isSamplingOk (parse (withoutEnd l)) ≡ false
+      → nextClock seen ≡ some t → Each (λ k. (u : ℕ) → lineClock k ≡ some u → u < t) (before ++ (l ∷ [])) → leavesOpen sheet l seen ≡ false
