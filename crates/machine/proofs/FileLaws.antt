@@ -1,13 +1,13 @@
 -- A file of lines: a written message holds no byte 10, so a file gives its messages back.
-use Prim.Native.Nat.{ℕ, _-_, _<_}
+use Prim.Native.Nat.{ℕ, zero, suc, _-_, _<_}
 use native.Mathlib.Omega.{arith}
-use mathlib.Core.Path.{_≡_, refl, ap, ap₂, sym, _∙_}
+use mathlib.Core.Path.{_≡_, refl, ap, ap₂, sym, _∙_, subst}
 use mathlib.Core.Bool.{Bool, true, false, not, true≢false}
 use mathlib.Core.List.{List, [], _∷_, _++_, map, append-assoc}
 use lib.Dec.{eqb}
 use lib.ListN.{length, take, length-append}
 use lib.Seq.{take-append-seam}
-use borrow.Author.Tests.{eqb-true}
+use borrow.Author.Tests.{eqb-true, not-true}
 use Rattle.output.specs.Text.{isDigit, all}
 use Rattle.output.specs.Number.{decimal, digit}
 use Rattle.output.specs.Read.{other, upTo, past}
@@ -20,7 +20,8 @@ use Rattle.line.specs.Line.{message, letter, nameByte, kindByte, parse, WellFor
 use Rattle.line.proofs.ReadBack.{read-back, written-apart}
 use Rattle.machine.specs.Places.{Each, joined}
 use Rattle.machine.specs.TwoDevices.{withoutEnd}
-use Rattle.machine.proofs.TestLaws.{cond-either}
+use Rattle.machine.specs.Tells.{startWith, wholeLines}
+use Rattle.machine.proofs.TestLaws.{and-true, cond-either, cond-false}
 
 -- a byte of a kind that byte 10 is not of
 not-end : (is : ℕ → Bool) → is 10 ≡ false → (b : ℕ) → is b ≡ true → other 10 b ≡ true
@@ -102,3 +103,31 @@ file-apart (m ∷ ms) [] h k e = absurd (empty m (joined (map line ms)) (sym e))
 file-apart (m ∷ ms) (n ∷ ns) h k e = ap₂ _∷_
     (written-apart m n (h .0) (k .0) (sym (first-line m (h .0) _) ∙ (ap (upTo 10) e ∙ first-line n (k .0) _)))
     (file-apart ms ns (h .1) (k .1) (sym (other-lines m (h .0) _) ∙ (ap (past 10) e ∙ other-lines n (k .0) _)))
+
+-- Whole lines.
+
+module _ (r : List ℕ) where
+  whole-line : (l : List ℕ) → all (other 10) l ≡ true → wholeLines (l ++ (10 ∷ r)) ≡ (l ++ (10 ∷ [])) ∷ wholeLines r
+  whole-line [] h = refl
+  whole-line (b ∷ l) h = let q = and-true (other 10 b) (all (other 10) l) h in
+      cond-false (eqb b 10) _ _ (not-true (eqb b 10) (q .0)) ∙ ap (startWith b) (whole-line l (q .1))
+
+  -- a line that is cut off, or whole
+  cut-line : (l : List ℕ) → all (other 10) l ≡ true → (P : List (List ℕ) → Type 0) → P [] → ((k : ℕ) → P ((l ++ (10 ∷ [])) ∷ wholeLines (take k r)))
+      → (n : ℕ) → P (wholeLines (take n (l ++ (10 ∷ r))))
+  cut-line [] h P none whole zero = none
+  cut-line [] h P none whole (suc n) = whole n
+  cut-line (b ∷ l) h P none whole zero = none
+  cut-line (b ∷ l) h P none whole (suc n) = let q = and-true (other 10 b) (all (other 10) l) h in
+      subst P (sym (cond-false (eqb b 10) _ _ (not-true (eqb b 10) (q .0)))) (cut-line l (q .1) (λ ls. P (startWith b ls)) none whole n)
+
+pub whole-lines : (ms : List Message) → Each WellFormed ms → wholeLines (joined (map line ms)) ≡ map line ms
+whole-lines [] w = refl
+whole-lines (m ∷ ms) w = ap wholeLines (cut-file m (joined (map line ms))) ∙ (whole-line (joined (map line ms)) (write m) (written-free m (w .0)) ∙ ap₂ _∷_ (sym (line-end m)) (whole-lines ms (w .1)))
+
+pub cut-lines : (ms : List Message) → Each WellFormed ms → (n : ℕ) → (rest : List (List ℕ)) × (map line ms ≡ wholeLines (take n (joined (map line ms))) ++ rest)
+cut-lines [] w zero = ([], refl)
+cut-lines [] w (suc n) = ([], refl)
+cut-lines (m ∷ ms) w n = subst (λ s. (rest : List (List ℕ)) × (line m ∷ map line ms ≡ wholeLines (take n s) ++ rest)) (sym (cut-file m (joined (map line ms))))
+    (cut-line (joined (map line ms)) (write m) (written-free m (w .0)) (λ ls. (rest : List (List ℕ)) × (line m ∷ map line ms ≡ ls ++ rest)) (line m ∷ map line ms, refl)
+    (λ k. let r = cut-lines ms (w .1) k in (r .0, ap₂ _∷_ (line-end m) (r .1))) n)

@@ -5,6 +5,7 @@ use mathlib.Core.Path.{_≡_, refl, ap, sym, _∙_, subst}
 use mathlib.Core.Bool.{Bool, true, false, cond, true≢false}
 use mathlib.Core.List.{List, [], _∷_, _++_, map}
 use mathlib.Core.Option.{Option, none, some}
+use lib.ListN.{take}
 use Rattle.message.specs.Message.{Message, line}
 use Rattle.message.specs.Delivery.{Delivery}
 use Rattle.line.specs.Line.{WellFormed}
@@ -14,19 +15,19 @@ use Rattle.machine.specs.declared.Sheet.{Sheet}
 use Rattle.machine.specs.declared.Strategy.{Strategy}
 use Rattle.machine.specs.declared.Strategy.the-variants.{None, Auto, Period, Event, Differential, EventRate, DifferentialRate}
 use Rattle.machine.specs.declared.Subscription.{Subscription}
-use Rattle.machine.specs.Places.{Each}
+use Rattle.machine.specs.Places.{Each, joined}
 use Rattle.machine.specs.Sheet.{sensorOf}
 use Rattle.machine.specs.State.{connected, present, pairOf}
 use Rattle.machine.specs.Declined.{Call}
 use Rattle.machine.specs.Machine.{step}
 use Rattle.machine.specs.Reader.{Told, Impossible, news, View, viewAfter, viewBy, noView, viewOf, standing, toldOf}
 use Rattle.machine.specs.TwoDevices.{after, sheetOf, connectedAtEnd, linesOf, messagesOf, strategyOf, lastReport, later, clockOf}
-use Rattle.machine.specs.Tells.{newsIn, lineNews, viewIn, fileView, Known, ViewTells, readingAt, TellsAt, Tells}
+use Rattle.machine.specs.Tells.{newsIn, lineNews, viewIn, fileView, Known, ViewTells, readingAt, TellsAt, Tells, wholeLines, FileCut}
 use Rattle.machine.proofs.SheetLaws.{Sensors, sensors-out}
 use Rattle.machine.proofs.OpenedRange.{opened-range}
 use Rattle.machine.proofs.Impossible.{never-impossible}
 use Rattle.machine.proofs.Sent.{sent-well-formed}
-use Rattle.machine.proofs.FileLaws.{line-parses}
+use Rattle.machine.proofs.FileLaws.{line-parses, whole-lines, cut-lines}
 use Rattle.machine.proofs.ListLaws.{sheet-is, clock-is, reading-is, connected-is, at-end-small, heard-is}
 use Rattle.machine.proofs.StrategyLaws.{strategy-is}
 use Rattle.machine.proofs.KnownLaws.{Good}
@@ -137,3 +138,10 @@ module _ (bytes : List ℕ) (a : ℕ) (h : List Call) where
 -- what a file tells at the end
 pub tells : Tells
 tells bytes a h c j hs = tells-at bytes a h c j hs
+
+-- what a file's bytes give back
+pub file-cut : FileCut
+file-cut = record {
+  whole-file = λ bytes a h. ap (λ ls. wholeLines (joined ls)) (lines-are bytes a h) ∙ (whole-lines (messagesOf bytes a h) (well bytes a h) ∙ sym (lines-are bytes a h));
+  cut-off = λ bytes a h n. subst (λ ls. (rest : List (List ℕ)) × (ls ≡ wholeLines (take n (joined ls)) ++ rest)) (sym (lines-are bytes a h)) (cut-lines (messagesOf bytes a h) (well bytes a h) n);
+}

@@ -7,7 +7,7 @@ use mathlib.Core.Bool.{Bool, true, false, cond, not, _&&_, _||_}
 use mathlib.Core.List.{List, [], _∷_, _++_, map}
 use mathlib.Core.Option.{Option, none, some}
 use lib.Dec.{eqb, ltb}
-use lib.ListN.{length}
+use lib.ListN.{length, take}
 use Rattle.output.specs.Text.{text}
 use Rattle.output.specs.Read.{readTime}
 use Rattle.message.specs.Message.{line}
@@ -18,7 +18,7 @@ use Rattle.machine.specs.declared.Sensor.{Sensor}
 use Rattle.machine.specs.declared.Sheet.{Sheet}
 use Rattle.machine.specs.declared.Strategy.{Strategy}
 use Rattle.machine.specs.declared.Strategy.the-variants.{None, Auto, Period, Event, Differential, EventRate, DifferentialRate}
-use Rattle.machine.specs.Places.{has, Each}
+use Rattle.machine.specs.Places.{has, Each, joined}
 use Rattle.machine.specs.Sheet.{sensorOf}
 use Rattle.machine.specs.Range.{isNone}
 use Rattle.machine.specs.Messages.{statusFor, report}
@@ -289,3 +289,22 @@ pub record CutTells : Type 0 where
       → linesOf bytes a h ≡ before ++ (l ∷ []) → (j : ℕ) → j < sheetOf bytes .count → HoldsUpTo bytes a h before l j
   pub by-clock : (sheet : Sheet) (before : List (List ℕ)) (l : List ℕ) (seen : List (List ℕ)) (t : ℕ) → isSamplingOk (parse (withoutEnd l)) ≡ false
       → nextClock seen ≡ some t → Each (λ k. (u : ℕ) → lineClock k ≡ some u → u < t) (before ++ (l ∷ [])) → leavesOpen sheet l seen ≡ false
+
+-- The file's bytes.
+
+-- a byte before the first of some lines
+abbrev pub startWith : ℕ → List (List ℕ) → List (List ℕ)
+startWith b [] = []
+startWith b (l ∷ ls) = (b ∷ l) ∷ ls
+
+-- the whole lines in bytes: each byte 10 ends one, and belongs to it; bytes behind the last are none
+abbrev pub wholeLines : List ℕ → List (List ℕ)
+wholeLines [] = []
+wholeLines (b ∷ s) = cond (eqb b 10) ((10 ∷ []) ∷ wholeLines s) (startWith b (wholeLines s))
+
+-- `whole-file`: the bytes of a file, its lines one after another, give its lines back.
+-- `cut-off`: of the first n bytes the whole lines are a start of the file's lines.
+pub record FileCut : Type 0 where
+  pub whole-file : (bytes : List ℕ) (a : ℕ) (h : List Call) → wholeLines (joined (linesOf bytes a h)) ≡ linesOf bytes a h
+  pub cut-off : (bytes : List ℕ) (a : ℕ) (h : List Call) (n : ℕ)
+      → (rest : List (List ℕ)) × (linesOf bytes a h ≡ wholeLines (take n (joined (linesOf bytes a h))) ++ rest)
