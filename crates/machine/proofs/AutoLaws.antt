@@ -1,13 +1,13 @@
 -- Under auto an accepted reading gives the archive one line, its report.
-use Prim.Native.Nat.{ℕ, zero, suc, _+_, _*_, _/_, _%_, _≤_, _<_}
+use Prim.Native.Nat.{ℕ, _+_, _*_, _/_, _%_, _≤_, _<_}
 use native.Mathlib.Omega.{arith}
 use mathlib.Core.Path.{_≡_, refl, ap, ap₂, sym, _∙_, subst}
-use mathlib.Core.Bool.{Bool, true, false, cond, _&&_, true≢false}
-use mathlib.Core.List.{List, [], _∷_, _++_, map, append-assoc, append-nil}
+use mathlib.Core.Bool.{Bool, true, false, true≢false}
+use mathlib.Core.List.{List, [], _∷_, _++_, map, append-assoc}
 use lib.Dec.{eqb, ltb}
-use borrow.Author.Tests.{eqb-true, eqb-false, lt-ltb}
-use Rattle.message.specs.Message.{Message, line}
-use Rattle.message.specs.Delivery.{Delivery, to}
+use borrow.Author.Tests.{eqb-true, lt-ltb}
+use Rattle.message.specs.Message.{line}
+use Rattle.message.specs.Delivery.{to}
 use Rattle.line.specs.Line.{WellFormed}
 use Rattle.value.specs.declared.Reading.{Reading as Given}
 use Rattle.value.specs.declared.Sample.{Sample}
@@ -16,15 +16,15 @@ use Rattle.machine.specs.declared.State.{State}
 use Rattle.machine.specs.declared.Stored.{Stored}
 use Rattle.machine.specs.declared.Strategy.the-variants.{Auto}
 use Rattle.machine.specs.declared.Cause.the-variants.{Reading as Read}
-use Rattle.machine.specs.Places.{gather, oneIf, isZero}
+use Rattle.machine.specs.Places.{oneIf, isZero}
 use Rattle.machine.specs.Sheet.{sensorOf}
-use Rattle.machine.specs.State.{connected, present, pairAt, pairOf, withReading}
+use Rattle.machine.specs.State.{connected, pairAt, pairOf, withReading}
 use Rattle.machine.specs.Messages.{report, reportOf}
 use Rattle.machine.specs.Report.{due, dueBy, dueAt, pairSends, visit}
 use Rattle.machine.specs.Declined.{Reading, Call, callOf}
 use Rattle.machine.specs.Machine.{Effect, perform, step, sampleGiven}
 use Rattle.machine.specs.Reader.{Reported, toldOf}
-use Rattle.machine.specs.TwoDevices.{after, sheetOf, returnedZero, packetsOf, connects, connectedAtEnd, linesTo, linesOf, sentTo, strategyOf, clockOf}
+use Rattle.machine.specs.TwoDevices.{after, sheetOf, returnedZero, connectedAtEnd, linesTo, linesOf, sentTo, strategyOf, clockOf}
 use Rattle.machine.specs.Tells.{newsIn, lineNews, reportGiven, AutoShows}
 use Rattle.machine.proofs.TestLaws.{and-true, cond-true, eqb-refl}
 use Rattle.machine.proofs.StateLaws.{place-client, place-sensor, stored-after}
@@ -34,31 +34,14 @@ use Rattle.machine.proofs.OpenedRange.{opened-range}
 use Rattle.machine.proofs.SampleRange.{given-fits}
 use Rattle.machine.proofs.NewsLaws.{news-report}
 use Rattle.machine.proofs.StepLaws.{by-cases}
-use Rattle.machine.proofs.HeardLaws.{sent-append}
+use Rattle.machine.proofs.HeardLaws.{sent-at-one}
 use Rattle.machine.proofs.FileLaws.{line-parses}
 use Rattle.machine.proofs.SentSizes.{sound-report}
 use Rattle.machine.proofs.Sent.{sound-well-formed}
 use Rattle.machine.proofs.ListLaws.{sheet-is, clock-is, sent-packets, at-end-small}
 use Rattle.machine.proofs.ArchiveLaws.{lines-packed}
 use Rattle.machine.proofs.TellsLaws.{sheet-rules, on, strategy-held}
-use Rattle.machine.proofs.MomentLaws.{still-on, more-lines, on-then, start-of}
-
--- what client a is sent over places, where one place alone sends to it
-module _ (a : ℕ) (f : ℕ → List Delivery) where
-  nowhere : (n : ℕ) → ((i : ℕ) → i < n → sentTo a (f i) ≡ []) → sentTo a (gather f n) ≡ []
-  unfolding gather sentTo
-  nowhere zero h = refl
-  nowhere (suc n) h = sent-append a (gather f n) (f n) ∙ ap₂ _++_ (nowhere n (λ i k. h i (omega arith))) (h n (omega arith))
-
-  at-one : (n t : ℕ) → t < n → ((i : ℕ) → i < n → (i ≡ t → ⊥) → sentTo a (f i) ≡ []) → sentTo a (gather f n) ≡ sentTo a (f t)
-  unfolding gather
-  at-one zero t l h = absurd (omega arith)
-  at-one (suc n) t l h = sent-append a (gather f n) (f n) ∙ go (eqb n t) refl (at-one n t)
-    where
-      go : (b : Bool) → eqb n t ≡ b → (t < n → ((i : ℕ) → i < n → (i ≡ t → ⊥) → sentTo a (f i) ≡ []) → sentTo a (gather f n) ≡ sentTo a (f t))
-          → sentTo a (gather f n) ++ sentTo a (f n) ≡ sentTo a (f t)
-      go true e ih = ap (λ l. l ++ sentTo a (f n)) (nowhere n (λ i k. h i (omega arith) (λ q. omega (arith, eqb-true n t e)))) ∙ ap (λ i. sentTo a (f i)) (eqb-true n t e)
-      go false e ih = ap (λ l. sentTo a (gather f n) ++ l) (h n (omega arith) (eqb-false n t e)) ∙ (append-nil _ ∙ ih (omega (arith, eqb-false n t e)) (λ i k. h i (omega arith)))
+use Rattle.machine.proofs.MomentLaws.{no-connect, still-on, more-lines, on-then, start-of}
 
 module _ (s : State) (a j : ℕ) (ha : a < 8) (hj : j < 32) (x : Sample) where
   -- the state in which the pairs are visited
@@ -88,7 +71,7 @@ module _ (s : State) (a j : ℕ) (ha : a < 8) (hj : j < 32) (x : Sample) where
 
   pub sent-of-reading : connected s a ≡ true → j < s .sheet .count → pairOf s a j .strategy ≡ Auto
       → sentTo a (visit (s .sheet) read (Read j) .sent) ≡ report (s .clock) (sensorOf (s .sheet) j) x ∷ []
-  sent-of-reading on hs st = at-one a (pairSends (s .sheet) read (Read j)) 256 (a * 32 + j) (omega arith) others-silent ∙ own-report on hs st
+  sent-of-reading on hs st = sent-at-one a (pairSends (s .sheet) read (Read j)) 256 (a * 32 + j) (omega arith) others-silent ∙ own-report on hs st
 
 -- Over a list of calls.
 
@@ -109,16 +92,9 @@ module _ (bytes : List ℕ) (a j : ℕ) (hs : j < sheetOf bytes .count) (r : Giv
       ∙ ap₂ (λ t sheet. report t (sensorOf sheet j) (sampleGiven (sensorOf sheet j) r) ∷ []) (clock-is bytes h) (sheet-is bytes h))
       (λ k _ e. absurd (true≢false (sym e))) z
 
-  no-connect : (h : List Call) (lent : List ℕ) → connects bytes a h (callOf (Reading j r) lent) ≡ false
-  no-connect h lent = go (returnedZero bytes h (callOf (Reading j r) lent))
-    where
-      go : (b : Bool) → (b && false) ≡ false
-      go true = refl
-      go false = refl
-
   one-line : (h : List Call) (lent : List ℕ) → connectedAtEnd bytes a h ≡ true → returnedZero bytes h (callOf (Reading j r) lent) ≡ true → strategyOf bytes a j h ≡ Auto
       → linesOf bytes a (callOf (Reading j r) lent ∷ h) ≡ linesOf bytes a h ++ (reportGiven bytes j r h ∷ [])
-  one-line h lent c z st = more-lines bytes a (callOf (Reading j r) lent) h (no-connect h lent)
+  one-line h lent c z st = more-lines bytes a (callOf (Reading j r) lent) h (no-connect bytes a (callOf (Reading j r) lent) h refl)
       ∙ ap (λ l. linesOf bytes a h ++ l) (ap (linesTo a) (sent-packets bytes a h (callOf (Reading j r) lent)) ∙ (lines-packed a (step (after bytes h) (callOf (Reading j r) lent) .sent) ∙ ap (map line) (given-sent h lent c z st)))
 
   given-told : (h : List Call) → lineNews (sheetOf bytes) (reportGiven bytes j r h) ≡ Reported j (toldOf n (clockOf bytes h) (sampleGiven n r))
@@ -138,7 +114,7 @@ auto-shows = record {
   in-file = λ bytes a j hs r lent later h e z st.
       let call = callOf (Reading j r) lent in
       let s = start-of bytes a (call ∷ h) later (e .same-connection) in
-      let c = still-on bytes a call h (no-connect bytes a j hs r h lent) (on-then bytes a (call ∷ h) later (e .same-connection) (e .at-end)) in
+      let c = still-on bytes a call h (no-connect bytes a call h refl) (on-then bytes a (call ∷ h) later (e .same-connection) (e .at-end)) in
       (s .0, s .1 ∙ (ap (λ l. l ++ s .0) (one-line bytes a j hs r h lent c z st) ∙ append-assoc (linesOf bytes a h) (reportGiven bytes j r h ∷ []) (s .0)));
   told = λ bytes j hs r h. given-told bytes 0 j hs r h;
 }

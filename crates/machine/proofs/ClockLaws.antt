@@ -27,9 +27,9 @@ use Rattle.machine.specs.State.{present, connected, pairAt, withClock, w
 use Rattle.machine.specs.Range.{isNone}
 use Rattle.machine.specs.Messages
 use Rattle.machine.specs.Report.{Work, dueAt, pairSends, visit}
-use Rattle.machine.specs.Requests.{Asked, Nothing, NotMessage, Reply, Unknown, Asks, asked, argument, firstOf, listed, askedPlaces, helpNames, addresses, levelAsked, strategyAsked, sampledSends, sampling, endConnections, answer}
+use Rattle.machine.specs.Requests.{Asked, Nothing, NotMessage, Reply, Unknown, Asks, asked, listed, askedPlaces, helpNames, addresses, strategyAsked, sampledSends, sampling, endConnections, answer}
 use Rattle.machine.specs.Declined.{Action, Connect, Disconnect, Tick, Reading, Log, Line, Call, tickFits, actionDeclined, lineRefusal, refusal}
-use Rattle.machine.specs.Machine.{connectSends, entries, Effect, lineWork, perform, step}
+use Rattle.machine.specs.Machine.{connectSends, entries, Effect, perform, step}
 use Rattle.machine.specs.TwoDevices.{after, packetsOf, connects, linesTo, linesOf, sentTo, withoutEnd, clockBy, clockOf}
 use Rattle.machine.specs.Tells.{showsClock, clockIn, lineClock, ClockShown}
 use Rattle.machine.proofs.TestLaws.{and-true, cond-either, fitted}
@@ -89,8 +89,7 @@ module _ (sheet : Sheet) (s : State) (fits : s .clock ≤ 9999999999999) where
   sampling-timed : (c : ℕ) (m : Message) → AllTimed (s .clock) (sampling sheet s c m .sent)
   unfolding sampling sampledSends Messages.samplingReply
   sampling-timed c m = cond-either (λ (w : Work). AllTimed (s .clock) (w .sent)) (eqb (length (m .args)) 1) _ _
-      (silent, tt)
-      (
+      (silent, tt) (
         silent,
         cond-either (AllTimed (s .clock)) (isNone (strategyAsked sheet m)) [] _ tt
             (each-of (λ (d : Delivery). Timed (s .clock) (d .message)) (λ j. to c (Messages.reportOf sheet s j)) (listed sheet m) (λ j. report-timed (s .clock) fits (sensorOf sheet j) (present s j))),

@@ -8,7 +8,7 @@ use lib.Dec.{eqb, ltb}
 use lib.ListN.{length}
 use borrow.Author.Tests.{eq-eqb, ltb-true, ltb-false, not-true}
 use Rattle.message.specs.Message.{Message, line}
-use Rattle.message.specs.Delivery.{Delivery, to}
+use Rattle.message.specs.Delivery.{Delivery}
 use Rattle.line.specs.Line.{WellFormed}
 use Rattle.machine.specs.declared.Sheet.{Sheet}
 use Rattle.machine.specs.declared.State.{State}
@@ -21,9 +21,8 @@ use Rattle.machine.specs.Machine.{step}
 use Rattle.machine.specs.Reader.{Told, News, Other, Impossible, Reported, SetTo, news, View, viewAfter, noView}
 use Rattle.machine.specs.TwoDevices.{after, sheetOf, packetsOf, connects, connectedAtEnd, linesTo, linesOf, sentTo, clockOf}
 use Rattle.machine.specs.Tells.{newsIn, lineNews, viewIn, fileView, ViewTells, FileTells, readingAt, upToLine, goesOn, mayGoOn, leavesOpen}
-use Rattle.machine.proofs.TestLaws.{and-true, and-false, cond-either, cond-cases}
+use Rattle.machine.proofs.TestLaws.{and-true, cond-either, cond-cases}
 use Rattle.machine.proofs.PlacesLaws.{each-behind}
-use Rattle.machine.proofs.QuietLaws.{Silent}
 use Rattle.machine.proofs.ShapeLaws.{ReportAt, ReportsAt, by-shape}
 use Rattle.machine.proofs.FileLaws.{line-parses}
 use Rattle.machine.proofs.Sent.{sent-well-formed}

@@ -2,8 +2,8 @@
 use Prim.Native.Nat.{ℕ, _<_}
 use Prim.Native.Char.{code}
 use native.Mathlib.Omega.{arith}
-use mathlib.Core.Path.{_≡_, refl, ap, sym, _∙_, subst}
-use mathlib.Core.Bool.{Bool, true, false, cond, not, _&&_, true≢false}
+use mathlib.Core.Path.{_≡_, refl, ap, sym, _∙_}
+use mathlib.Core.Bool.{Bool, true, false, cond, _&&_, true≢false}
 use mathlib.Core.List.{List, [], _∷_, _++_}
 use mathlib.Core.Option.{Option, none, some, Option·some-injective}
 use lib.Dec.{eqb, ltb}
@@ -17,7 +17,7 @@ use Rattle.machine.specs.declared.Sheet.{Sheet}
 use Rattle.machine.specs.Places.{Each}
 use Rattle.machine.specs.Sheet.{sensorOf, placeOf}
 use Rattle.machine.specs.Requests.{argument}
-use Rattle.machine.specs.Reader.{Told, News, Other, Impossible, Reported, SetTo, reportWith, reportRead, agreed, samplingNews, statusNamed, readValue, agrees, isNamed, isOk, news}
+use Rattle.machine.specs.Reader.{News, Other, Impossible, Reported, SetTo, reportWith, reportRead, agreed, samplingNews, statusNamed, readValue, agrees, isNamed, isOk, news}
 use Rattle.machine.specs.TwoDevices.{sheetOf, withoutEnd}
 use Rattle.machine.specs.Tells.{newsIn, lineNews, showsClock, clockIn, lineClock, isReport, goesOn, leavesOpen, nextClock, isSamplingOk, CutTells}
 use Rattle.machine.proofs.TestLaws.{cond-either, cond-true}

@@ -1,9 +1,9 @@
 -- What a client's messages tell of a sensor: over deliveries, over a visit's reports, over the reports of a list.
 use Prim.Native.Nat.{ℕ, zero, suc, _+_, _*_, _/_, _%_, _<_}
 use native.Mathlib.Omega.{arith}
-use mathlib.Core.Path.{_≡_, refl, ap, sym, _∙_}
+use mathlib.Core.Path.{_≡_, refl, ap, ap₂, sym, _∙_}
 use mathlib.Core.Bool.{Bool, true, false, cond, _&&_, _||_, true≢false}
-use mathlib.Core.List.{List, [], _∷_, _++_, map}
+use mathlib.Core.List.{List, [], _∷_, _++_, map, append-nil}
 use mathlib.Core.Option.{some}
 use lib.Dec.{eqb}
 use borrow.Author.Tests.{eqb-true, eqb-false}
@@ -37,6 +37,23 @@ sent-append a (d ∷ ds) ys = go (eqb (d .client) a) (sent-append a ds ys)
         → cond b (d .message ∷ sentTo a (ds ++ ys)) (sentTo a (ds ++ ys)) ≡ cond b (d .message ∷ sentTo a ds) (sentTo a ds) ++ sentTo a ys
     go true h = ap (λ l. d .message ∷ l) h
     go false h = h
+
+-- what client a is sent over places, where one place alone sends to it
+module _ (a : ℕ) (f : ℕ → List Delivery) where
+  sent-nowhere : (n : ℕ) → ((i : ℕ) → i < n → sentTo a (f i) ≡ []) → sentTo a (gather f n) ≡ []
+  unfolding gather sentTo
+  sent-nowhere zero h = refl
+  sent-nowhere (suc n) h = sent-append a (gather f n) (f n) ∙ ap₂ _++_ (sent-nowhere n (λ i k. h i (omega arith))) (h n (omega arith))
+
+  pub sent-at-one : (n t : ℕ) → t < n → ((i : ℕ) → i < n → (i ≡ t → ⊥) → sentTo a (f i) ≡ []) → sentTo a (gather f n) ≡ sentTo a (f t)
+  unfolding gather
+  sent-at-one zero t l h = absurd (omega arith)
+  sent-at-one (suc n) t l h = sent-append a (gather f n) (f n) ∙ go (eqb n t) refl (sent-at-one n t)
+    where
+      go : (b : Bool) → eqb n t ≡ b → (t < n → ((i : ℕ) → i < n → (i ≡ t → ⊥) → sentTo a (f i) ≡ []) → sentTo a (gather f n) ≡ sentTo a (f t))
+          → sentTo a (gather f n) ++ sentTo a (f n) ≡ sentTo a (f t)
+      go true e ih = ap (λ l. l ++ sentTo a (f n)) (sent-nowhere n (λ i k. h i (omega arith) (λ q. omega (arith, eqb-true n t e)))) ∙ ap (λ i. sentTo a (f i)) (eqb-true n t e)
+      go false e ih = ap (λ l. sentTo a (gather f n) ++ l) (h n (omega arith) (eqb-false n t e)) ∙ (append-nil _ ∙ ih (omega (arith, eqb-false n t e)) (λ i k. h i (omega arith)))
 
 -- what client a hears of sensor j in deliveries
 unfoldable pub heard : Sheet → ℕ → ℕ → List Delivery → View → View

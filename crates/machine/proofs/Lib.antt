@@ -53,6 +53,7 @@ pub mod ClockLaws
 pub mod AutoLaws
 pub mod CutLaws
 pub mod CutTells
+pub mod EndLaws
 pub mod TwoDevices
 pub mod WatchLaws
 pub mod BesideLaws

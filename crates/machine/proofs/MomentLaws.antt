@@ -5,12 +5,19 @@ use mathlib.Core.Bool.{Bool, true, false, cond, _&&_, _||_, true≢false}
 use mathlib.Core.List.{List, [], _∷_, _++_, append-assoc, append-nil}
 use Rattle.machine.specs.Places.{Each}
 use Rattle.machine.specs.Declined.{Call}
-use Rattle.machine.specs.TwoDevices.{returnedZero, packetsOf, connects, isDisconnect, endsAll, connectedAtEnd, linesTo, linesOf}
-use Rattle.machine.specs.Tells.{connectsIn, Earlier, EveryMoment, moments}
+use Rattle.machine.specs.TwoDevices.{returnedZero, packetsOf, connects, isConnect, isDisconnect, endsAll, connectedAtEnd, linesTo, linesOf}
+use Rattle.machine.specs.Tells.{connectsIn, EveryMoment, moments}
 use Rattle.machine.proofs.TestLaws.{or-false, cond-false}
 use Rattle.machine.proofs.TellsLaws.{tells}
 
 module _ (bytes : List ℕ) (a : ℕ) where
+  pub no-connect : (call : Call) (h : List Call) → isConnect a (call .action) ≡ false → connects bytes a h call ≡ false
+  no-connect call h e = go (returnedZero bytes h call)
+    where
+      go : (b : Bool) → (b && isConnect a (call .action)) ≡ false
+      go true = e
+      go false = refl
+
   -- a call that is no connect of the archive leaves it connected only if it was
   pub still-on : (call : Call) (h : List Call) → connects bytes a h call ≡ false → connectedAtEnd bytes a (call ∷ h) ≡ true → connectedAtEnd bytes a h ≡ true
   unfolding connectedAtEnd
@@ -53,8 +60,7 @@ module _ (bytes : List ℕ) (a : ℕ) where
     each-moment P file holds (call ∷ later) rest e on f =
         let q = first-not call later e in
         let s = start-of (call ∷ later) e in
-        let new = linesTo a (packetsOf bytes (later ++ h) call) in
-        (
+        let new = linesTo a (packetsOf bytes (later ++ h) call) in (
           holds (call ∷ (later ++ h)) (s .0) rest on (s .1) f,
           each-moment P file holds later (new ++ rest) (q .1) (still-on call (later ++ h) (q .0) on)
               (f ∙ (ap (λ l. l ++ rest) (more-lines call (later ++ h) (q .0)) ∙ append-assoc (linesOf bytes a (later ++ h)) new rest)),

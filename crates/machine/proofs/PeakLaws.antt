@@ -1,10 +1,10 @@
 -- Under a differential every valid reading lies within the difference of a valid report that is in the file, and so do the highest of both.
 use Prim.Native.Nat.{ℕ, _+_, _*_, _≤_, _<_}
 use native.Mathlib.Omega.{arith}
-use mathlib.Core.Path.{_≡_, refl, ap, ap₂, sym, _∙_, subst}
+use mathlib.Core.Path.{_≡_, refl, ap, sym, _∙_, subst}
 use mathlib.Core.Bool.{Bool, true, false, cond, _&&_, _||_, true≢false}
 use mathlib.Core.List.{List, [], _∷_, _++_, map, append-assoc, append-nil, append-cancel-left}
-use mathlib.Core.Option.{Option, some}
+use mathlib.Core.Option.{some, Option·some-injective}
 use lib.Dec.{eqb, ltb}
 use borrow.Author.Tests.{eqb-true, ltb-true, ltb-false}
 use Rattle.value.specs.declared.Sample.{Sample}
@@ -23,7 +23,7 @@ use Rattle.machine.specs.Tells.{lineNews, viewIn, fileView, Near, Known,
 use Rattle.machine.proofs.TestLaws.{or-in, eqb-refl, cond-either, cond-cases}
 use Rattle.machine.proofs.SampleRange.{valid-is}
 use Rattle.machine.proofs.PlacesLaws.{each-map, each-front}
-use Rattle.machine.proofs.TellsLaws.{view-in-append, tells, same-report, isThere}
+use Rattle.machine.proofs.TellsLaws.{view-in-append, tells, isThere}
 use Rattle.machine.proofs.MomentLaws.{each-moment}
 
 -- Numbers in lists.
@@ -71,7 +71,7 @@ module _ (sheet : Sheet) (j : ℕ) where
     where
       go : (b : Bool) → cond b (record { strategy = v .strategy; last = some s }) v .last ≡ some r
           → (any (eqb (r .value)) (cond (b && validStatus (s .status)) (s .value ∷ []) []) ≡ true → P) → P
-      go true q f = f (rw (same-report s r q, ok, eqb-refl (r .value)))
+      go true q f = f (rw (Option·some-injective s r q, ok, eqb-refl (r .value)))
       go false q f = old q
   last-of-line P (SetTo js st) v r ok e old now = go (has j js) e
     where
@@ -97,9 +97,14 @@ Covered bytes j d file x = isValid x ≡ true → (v : ℕ) × ((has v (validRep
 covered-then : (bytes : List ℕ) (a j d : ℕ) → j < sheetOf bytes .count → (file : List (List ℕ)) (g : List Call) (rest : List (List ℕ))
     → connectedAtEnd bytes a g ≡ true → file ≡ linesOf bytes a g ++ rest → strategyOf bytes a j g ≡ Differential d → Covered bytes j d file (readingAt bytes j g)
 unfolding isNone
-covered-then bytes a j d hs file g rest on f st valid =
-    (r .value, (subst (λ ls. has (r .value) (validReports (sheetOf bytes) j ls) ≡ true) (sym f)
-    (rw reports-append (has-before (r .value) (validReports (sheetOf bytes) j (linesOf bytes a g)) _ listed)), near .1 valid))
+covered-then bytes a j d hs file g rest on f st valid = (
+  r .value,
+  (
+    subst (λ ls. has (r .value) (validReports (sheetOf bytes) j ls) ≡ true) (sym f)
+        (rw reports-append (has-before (r .value) (validReports (sheetOf bytes) j (linesOf bytes a g)) _ listed)),
+    near .1 valid,
+  ),
+)
   where
     t : TellsAt bytes a g j
     t = tells bytes a g on j hs

@@ -24,8 +24,8 @@ use Rattle.machine.specs.Range.{isNone}
 use Rattle.machine.specs.Messages.{reportOf}
 use Rattle.machine.specs.Report.{Work, dueAt, pairSends, visit}
 use Rattle.machine.specs.Requests.{listed, strategyAsked, sampledSends, sampling, answer}
-use Rattle.machine.specs.Declined.{refusal, Action, Connect, Disconnect, Tick, Reading, Log, Line, Call, tickFits, samplingDeclined, argumentsDeclined, actionDeclined}
-use Rattle.machine.specs.Machine.{connectSends, entries, Effect, sampleGiven, perform, step}
+use Rattle.machine.specs.Declined.{Action, Connect, Disconnect, Tick, Reading, Log, Line, Call, tickFits, samplingDeclined, argumentsDeclined, actionDeclined}
+use Rattle.machine.specs.Machine.{Effect, sampleGiven, perform, step}
 use Rattle.machine.specs.Reader.{Told, Reported, SetTo, news, toldOf}
 use Rattle.machine.proofs.TestLaws.{and-true, cond-cases, cond-true, fitted}
 use Rattle.machine.proofs.PlacesLaws.{each-gather, each-one, each-weaker, each-map}

@@ -1,10 +1,10 @@
 -- One device: what is read off its list of calls and off its archive's file is what its state holds, and the file tells the present readings.
-use Prim.Native.Nat.{ℕ, _-_, _≤_, _<_}
+use Prim.Native.Nat.{ℕ, _≤_, _<_}
 use native.Mathlib.Omega.{arith}
 use mathlib.Core.Path.{_≡_, refl, ap, sym, _∙_, subst}
 use mathlib.Core.Bool.{Bool, true, false, cond, true≢false}
 use mathlib.Core.List.{List, [], _∷_, _++_, map}
-use mathlib.Core.Option.{Option, none, some}
+use mathlib.Core.Option.{Option, none, some, Option·some-injective}
 use lib.ListN.{take}
 use Rattle.message.specs.Message.{Message, line}
 use Rattle.message.specs.Delivery.{Delivery}
@@ -21,7 +21,7 @@ use Rattle.machine.specs.State.{connected, present, pairOf}
 use Rattle.machine.specs.Declined.{Call}
 use Rattle.machine.specs.Machine.{step}
 use Rattle.machine.specs.Reader.{Told, Impossible, news, View, viewAfter, viewBy, noView, viewOf, standing, toldOf}
-use Rattle.machine.specs.TwoDevices.{after, sheetOf, connectedAtEnd, linesOf, messagesOf, strategyOf, lastReport, later, clockOf}
+use Rattle.machine.specs.TwoDevices.{after, sheetOf, connectedAtEnd, linesOf, messagesOf, strategyOf, lastReport, later}
 use Rattle.machine.specs.Tells.{newsIn, lineNews, viewIn, fileView, Known, ViewTells, readingAt, TellsAt, Tells, wholeLines, FileCut}
 use Rattle.machine.proofs.SheetLaws.{Sensors, sensors-out}
 use Rattle.machine.proofs.OpenedRange.{opened-range}
@@ -62,15 +62,6 @@ known-earlier n now clock x (Differential d) r h k = k
 known-earlier n now clock x (EventRate a b) r h k = λ p. k (omega arith)
 known-earlier n now clock x (DifferentialRate d a b) r h k = λ p. k (omega arith)
 
--- a report that is there
-
-abbrev reportOr : Told → Option Told → Told
-reportOr q none = q
-reportOr q (some r) = r
-
-pub same-report : (q r : Told) → some q ≡ some r → q ≡ r
-same-report q r e = ap (reportOr q) e
-
 abbrev pub isThere : Option Told → Bool
 isThere none = false
 isThere (some r) = true
@@ -83,7 +74,7 @@ good-tells n clock x p g = record {
 }
   where
     same : (r : Told) (b : Bool) → cond b (some (toldOf n (p .time) (p .sample))) none ≡ some r → toldOf n (p .time) (p .sample) ≡ r
-    same r true e = same-report _ r e
+    same r true e = Option·some-injective (toldOf n (p .time) (p .sample)) r e
     same r false e = absurd (true≢false (sym (ap isThere e)))
 
 pub sheet-rules : (bytes : List ℕ) → Sensors (sheetOf bytes)

@@ -4,18 +4,14 @@ use native.Mathlib.Omega.{arith}
 use mathlib.Core.Path.{_≡_, refl, ap, sym, _∙_, subst, subst₂}
 use mathlib.Core.Bool.{Bool, true, false}
 use mathlib.Core.List.{List, map}
-use mathlib.Core.Option.{Option, none, some}
+use mathlib.Core.Option.{Option, some}
 use Rattle.message.specs.Message.{line}
-use Rattle.message.specs.Delivery.{Delivery}
-use Rattle.line.specs.Line.{WellFormed}
 use Rattle.value.specs.declared.Sample.{Sample}
 use Rattle.machine.specs.declared.Sensor.{Sensor}
 use Rattle.machine.specs.declared.Strategy.{Strategy}
 use Rattle.machine.specs.declared.Strategy.the-variants.{None, Auto, Period, Event, Differential, EventRate, DifferentialRate}
-use Rattle.machine.specs.declared.Subscription.{Subscription}
-use Rattle.machine.specs.Places.{Each, joined}
+use Rattle.machine.specs.Places.{joined}
 use Rattle.machine.specs.Sheet.{sensorOf}
-use Rattle.machine.specs.State.{connected, present, pairOf}
 use Rattle.machine.specs.Range.{isNone}
 use Rattle.machine.specs.Messages.{statusFor}
 use Rattle.machine.specs.Report.{isValid, apart, width}

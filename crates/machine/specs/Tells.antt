@@ -21,13 +21,13 @@ use Rattle.machine.specs.declared.Strategy.the-variants.{None, Auto, Per
 use Rattle.machine.specs.Places.{has, Each, joined}
 use Rattle.machine.specs.Sheet.{sensorOf}
 use Rattle.machine.specs.Range.{isNone}
-use Rattle.machine.specs.Messages.{statusFor, report}
+use Rattle.machine.specs.Messages.{disconnect, statusFor, report}
 use Rattle.machine.specs.Report.{isValid, apart, width}
 use Rattle.machine.specs.Requests.{argument}
-use Rattle.machine.specs.Declined.{Reading, Call, callOf}
+use Rattle.machine.specs.Declined.{Reading, Line, Call, callOf}
 use Rattle.machine.specs.Machine.{sampleGiven}
 use Rattle.machine.specs.Reader.{Told, News, Other, Impossible, Reported, SetTo, news, isNamed, isOk, validStatus, View, viewAfter, noView, toldOf}
-use Rattle.machine.specs.TwoDevices.{sheetOf, returnedZero, connects, connectedAtEnd, linesOf, linesTo, packetsOf, withoutEnd, strategyOf, lastReport, lastReading, sampleFrom, clockOf}
+use Rattle.machine.specs.TwoDevices.{sheetOf, returnedZero, endsAll, connects, connectedAtEnd, linesOf, linesTo, packetsOf, withoutEnd, strategyOf, lastReport, lastReading, sampleFrom, clockOf}
 
 -- The reader of a file.
 
@@ -289,6 +289,16 @@ pub record CutTells : Type 0 where
       → linesOf bytes a h ≡ before ++ (l ∷ []) → (j : ℕ) → j < sheetOf bytes .count → HoldsUpTo bytes a h before l j
   pub by-clock : (sheet : Sheet) (before : List (List ℕ)) (l : List ℕ) (seen : List (List ℕ)) (t : ℕ) → isSamplingOk (parse (withoutEnd l)) ≡ false
       → nextClock seen ≡ some t → Each (λ k. (u : ℕ) → lineClock k ≡ some u → u < t) (before ++ (l ∷ [])) → leavesOpen sheet l seen ≡ false
+
+-- The end of a connection.
+
+-- a `halt` or `restart` of client c that is answered `ok` gives an archive that is connected `#disconnect` as its last line; before it stand the lines up to
+-- then, where the archive is connected and all of the above holds, and, if the archive asked itself, the one reply
+abbrev pub LastLine : Type 0
+LastLine = (bytes : List ℕ) (a c : ℕ) (asked lent : List ℕ) (h : List Call) → connectedAtEnd bytes a h ≡ true
+    → endsAll (Line c asked) (packetsOf bytes h (callOf (Line c asked) lent)) ≡ true
+    → (why : List ℕ) × ((replies : List (List ℕ)) × ((linesOf bytes a (callOf (Line c asked) lent ∷ h) ≡ linesOf bytes a h ++ (replies ++ (line (disconnect why) ∷ [])))
+    × (length replies ≡ cond (eqb c a) 1 0)))
 
 -- The file's bytes.
 
