@@ -84,7 +84,7 @@ module _ (sheet : Sheet) where
   still-settles ls h part l rest e f = each-behind Still part (l ∷ rest) (subst (Each Still) e h) .1
 
   two-go-on : (t : ℕ) (l next : List ℕ) → LineAt t l → LineAt t next → goesOn (lineNews sheet l) (lineNews sheet next) ≡ true
-  two-go-on t l next h k = rw (h .1 .1 .0, k .1 .1 .0) (eq-eqb _ _ (k .1 .1 .1 ∙ sym (h .1 .1 .1)))
+  two-go-on t l next h k = ap₂ goesOn (h .1 .1 .0) (k .1 .1 .0) ∙ eq-eqb (k .1 .0 .time) (h .1 .0 .time) (k .1 .1 .1 ∙ sym (h .1 .1 .1))
 
   reports-settle : (t : ℕ) (ls : List (List ℕ)) → Each (LineAt t) ls → Settles ls
   reports-settle t ls h part l rest e f = go rest (each-behind (LineAt t) part (l ∷ rest) (subst (Each (LineAt t)) e h)) f
@@ -101,7 +101,7 @@ module _ (sheet : Sheet) where
     where
       go : (b : Bool) → isNone st ≡ b → Each Still (next ∷ ls)
       go true q = absurd (nil≢cons (sym (n q)))
-      go false q = absurd (true≢false (sym (rw (e, h .0 .1 .1 .0, q)) ∙ f))
+      go false q = absurd (true≢false (sym (ap₂ goesOn e (h .0 .1 .1 .0) ∙ ap (λ b. not b && true) q) ∙ f))
 
   set-settles : (t : ℕ) (l₀ : List ℕ) (js : List ℕ) (st : Strategy) (ls : List (List ℕ)) → lineNews sheet l₀ ≡ SetTo js st → Each (LineAt t) ls → (isNone st ≡ true → ls ≡ [])
       → Settles (l₀ ∷ ls)
