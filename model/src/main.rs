@@ -1,7 +1,7 @@
 //! The commands of the model.
 
 use model::generate::{self, Profile};
-use model::{compare, console, encode, others, script, vectors};
+use model::{compare, console, encode, others, script, tells, vectors};
 use std::fs;
 use std::io::{self, BufReader, BufWriter, Read, Write};
 use std::process::ExitCode;
@@ -11,6 +11,7 @@ const USAGE: &str = "usage:
   model generate SEED CALLS > SCRIPT
   model compare REPLAY FROM TO CALLS
   model others REPLAY FROM TO CALLS    document 02, (i), on its answers
+  model tells FROM TO CALLS            what a client's file tells, on the model
   model tally FROM TO CALLS
   model encode < READABLE > SCRIPT
   model vectors > SCRIPT
@@ -44,6 +45,9 @@ fn run(words: &[&str]) -> Result<bool, Box<dyn std::error::Error>> {
         }
         ["others", replay, from, to, calls] => {
             return Ok(others::compare(replay, from.parse()?..to.parse()?, calls.parse()?)?);
+        }
+        ["tells", from, to, calls] => {
+            return Ok(tells::check(from.parse()?..to.parse()?, calls.parse()?));
         }
         ["tally", from, to, calls] => {
             print!("{}", compare::tally(from.parse()?..to.parse()?, calls.parse()?).text());
