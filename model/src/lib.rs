@@ -3,7 +3,8 @@
 //! It is written from documents 01 and 02 and the KATCP guideline alone, as a
 //! second opinion on what they say. Above each function of the server stand
 //! their words that it renders. The rest answers scripts of calls, makes
-//! them, and compares another program's answers with the model's.
+//! them, and compares another program's answers with the model's; a planner's
+//! reader of one client's file is compared with what the device held.
 
 pub mod compare;
 pub mod console;
