@@ -1,12 +1,12 @@
 //! What a file tells: a reader that has one client's lines alone concludes, and each conclusion is compared
-//! with what the device held. The rules are lettered (a) to (e):
+//! with what the device held:
 //!
-//! - (a) what the lines tell of a sensor's present reading, by its strategy (`Reader::conclusion`);
-//! - (b) it holds at the end of every call during the connection, and under differential the extremes of the
-//!   reports bound those of the readings;
-//! - (c) under auto each accepted reading is one line more, and no other call but a setting gives a report;
-//! - (d) the clocks that lines show never go back, and each is the clock at the end of its call;
-//! - (e) of a file that is cut anywhere, what is concluded from the lines up to one of them holds at the end of
+//! - what the lines tell of a sensor's present reading, by its strategy (`Reader::conclusion`), holds at the
+//!   end of every call during the connection;
+//! - under differential the extremes of the reports bound those of the readings;
+//! - under auto each accepted reading is one line more, and no other call but a setting gives a report;
+//! - the clocks that lines show never go back, and each is the clock at the end of its call;
+//! - of a file that is cut anywhere, what is concluded from the lines up to one of them holds at the end of
 //!   the call that gave it, unless that line leaves it open.
 
 use crate::files::{files, File, Moment, Step};
@@ -20,10 +20,10 @@ use std::ops::Range;
 
 /// Where conclusions are drawn.
 const PLACES: [&str; 5] = [
-    "(b) end of a call, the device's clock",
-    "(b) end of a call, the lines' clock",
-    "(e) a cut, the next line seen",
-    "(e) a cut, no next line seen",
+    "end of a call, the device's clock",
+    "end of a call, the lines' clock",
+    "a cut, the next line seen",
+    "a cut, no next line seen",
     "a file known to be whole",
 ];
 const DEVICE_CLOCK: usize = 0;
@@ -64,10 +64,10 @@ pub struct Counts {
     pub concluding_cuts: [u64; 2],
     /// Cuts left open: at a report with the next line seen, at a report without, at a reply with it, without.
     pub open: [Open; 4],
-    /// Cuts where the older rule is silent, having the whole file, and this one tells of some sensor.
-    pub beyond_older: u64,
-    /// Cuts where the older rule concludes.
-    pub older: u64,
+    /// Cuts where the rule by the next clock is silent, having the whole file, and this one tells of some sensor.
+    pub beyond_by_clock: u64,
+    /// Cuts where the rule by the next clock concludes.
+    pub by_clock: u64,
 }
 
 /// One file, its lines as read, and how far its check has come.
@@ -130,7 +130,7 @@ impl Check<'_> {
         }
     }
 
-    /// (c): "each reading since the strategy was set is a line", and no line of the sensor is anything else,
+    /// "each reading since the strategy was set is a line", and no line of the sensor is anything else,
     /// but for the report that answers a setting.
     fn under_auto(&mut self, sensor: usize, end: &Moment, lines: Range<usize>) -> Result<(), String> {
         if self.reader.sensors[sensor].strategy != Strategy::Auto {
@@ -148,10 +148,10 @@ impl Check<'_> {
             sampled || !told.iter().any(is_its_report)
         };
         let name = || readable::quoted(&self.file.sheet.sensors[sensor].name);
-        right.then_some(()).ok_or_else(|| format!("(c) {} under auto: {told:?}", name()))
+        right.then_some(()).ok_or_else(|| format!("{} under auto: {told:?}", name()))
     }
 
-    /// (d): a line's clock is not before an earlier one's, and is the clock at the end of its call.
+    /// A line's clock is not before an earlier one's, and is the clock at the end of its call.
     fn shown_clock(&mut self, line: usize, end: &Moment) -> Result<(), String> {
         let Some(clock) = self.told[line].clock() else {
             return Ok(());
@@ -160,7 +160,7 @@ impl Check<'_> {
         if self.reader.clock.is_some_and(|before| clock < before) || clock != end.clock {
             let before = self.reader.clock;
             return Err(format!(
-                "(d) line {} shows {clock}, one before it {before:?}, the device {}",
+                "line {} shows {clock}, one before it {before:?}, the device {}",
                 line + 1,
                 end.clock
             ));
@@ -168,7 +168,7 @@ impl Check<'_> {
         Ok(())
     }
 
-    /// (e): the file cut behind this line, with the next line seen and without; and beside it the older rule.
+    /// The file cut behind this line, with the next line seen and without; and beside it the rule by the next clock.
     fn cut(&mut self, line: usize, end: &Moment) -> Result<(), String> {
         let told = self.told[line].clone();
         let next = self.told.get(line + 1).cloned();
@@ -179,11 +179,11 @@ impl Check<'_> {
             self.cut_seeing(&told, open, NEXT_SEEN, end)?;
         }
         let tells = self.conclusions().iter().any(|conclusion| *conclusion != Conclusion::Nothing);
-        let older = self.older_rule_concludes(line);
-        self.counts.older += u64::from(older);
-        self.counts.beyond_older += u64::from(!older && !open && tells);
-        if older && open {
-            return Err("(e) is silent where the older rule concludes".to_string());
+        let by_clock = self.next_clock_concludes(line);
+        self.counts.by_clock += u64::from(by_clock);
+        self.counts.beyond_by_clock += u64::from(!by_clock && !open && tells);
+        if by_clock && open {
+            return Err("is silent where the rule by the next clock concludes".to_string());
         }
         Ok(())
     }
@@ -208,9 +208,9 @@ impl Check<'_> {
         Ok(())
     }
 
-    /// The older rule, with the whole file to look ahead in: the line is no sampling reply with `ok`, and the
+    /// The rule by the next clock, with the whole file to look ahead in: the line is no sampling reply with `ok`, and the
     /// next line that shows a clock shows a later one than every line before it.
-    fn older_rule_concludes(&self, line: usize) -> bool {
+    fn next_clock_concludes(&self, line: usize) -> bool {
         let later = self.told[line + 1..].iter().find_map(Told::clock);
         let reply = matches!(self.told[line], Told::Sampling { .. });
         !reply && later.is_some_and(|later| self.reader.clock.is_none_or(|before| later > before))
@@ -265,16 +265,16 @@ impl Check<'_> {
         format!("{}: {name}, {known:?}, tells {tells}; the device held {held}", PLACES[place])
     }
 
-    /// (b): the reader's record is the device's, and what the lines so far tell holds, by both clocks.
+    /// The reader's record is the device's, and what the lines so far tell holds, by both clocks.
     fn end(&mut self, end: &Moment, pairs: &[Subscription]) -> Result<(), String> {
         self.counts.ends += 1;
         if self.reader.clock.is_some_and(|shown| shown > end.clock) {
-            return Err("(d) a line shows a clock beyond the device's".to_string());
+            return Err("a line shows a clock beyond the device's".to_string());
         }
         for (known, pair) in self.reader.sensors.iter().zip(pairs) {
             let Known { strategy, last, .. } = *known;
             if (Subscription { strategy, last }) != *pair {
-                return Err(format!("(a) the lines tell {known:?}, the device has {pair:?}"));
+                return Err(format!("the lines tell {known:?}, the device has {pair:?}"));
             }
         }
         self.all_hold(DEVICE_CLOCK, end)?;
@@ -282,7 +282,7 @@ impl Check<'_> {
         (0..pairs.len()).try_for_each(|sensor| self.extremes(sensor, end))
     }
 
-    /// (b): under differential no valid reading since it was set went further beyond the valid reports than the
+    /// Under differential no valid reading since it was set went further beyond the valid reports than the
     /// difference.
     fn extremes(&mut self, sensor: usize, end: &Moment) -> Result<(), String> {
         let Known { strategy, extremes: reports, .. } = self.reader.sensors[sensor];
@@ -299,7 +299,7 @@ impl Check<'_> {
             return Ok(());
         }
         let name = readable::quoted(&self.file.sheet.sensors[sensor].name);
-        Err(format!("(b) {name} under {strategy:?}: reports {reports:?}, readings {readings:?}"))
+        Err(format!("{name} under {strategy:?}: reports {reports:?}, readings {readings:?}"))
     }
 
     /// A file that is known to be whole: what its lines tell holds at its end.
@@ -387,24 +387,24 @@ impl Counts {
     fn write_others(&self, text: &mut String) {
         let [by_device, by_lines] = self.held_back;
         let rows = [
-            ("(a) rates, shortest period not passed by the device's clock", by_device),
-            ("(a) the same by the lines' clock", by_lines),
-            ("(b) extremes under differential", self.extremes),
-            ("(c) readings under auto", self.auto_readings),
-            ("(c) other calls under auto", self.auto_others),
-            ("(d) clocks", self.clocks),
+            ("rates, shortest period not passed by the device's clock", by_device),
+            ("the same by the lines' clock", by_lines),
+            ("extremes under differential", self.extremes),
+            ("readings under auto", self.auto_readings),
+            ("other calls under auto", self.auto_others),
+            ("clocks", self.clocks),
         ];
         write_rows(text, &rows);
     }
 
-    /// Where cuts leave it open, and the older rule.
+    /// Where cuts leave it open, and the rule by the next clock.
     fn write_cuts(&self, text: &mut String) {
         let [seen, alone] = self.concluding_cuts;
         let rows = [
-            ("(e) cuts that conclude, the next line seen", seen),
-            ("(e) cuts that conclude, no next line seen", alone),
-            ("lines at which the older rule concludes, having the whole file", self.older),
-            ("lines at which it is silent and this one tells of a sensor", self.beyond_older),
+            ("cuts that conclude, the next line seen", seen),
+            ("cuts that conclude, no next line seen", alone),
+            ("lines at which the rule by the next clock concludes, having the whole file", self.by_clock),
+            ("lines at which it is silent and this one tells of a sensor", self.beyond_by_clock),
         ];
         write_rows(text, &rows);
         text.push_str("\n| cuts left open | cuts | conclusions without the exception | false ones |\n");

@@ -7,7 +7,7 @@ use mathlib.Core.List.{List, [], _∷_, _++_, map, append-assoc, nil≢cons, hea
 use lib.Dec.{eqb, ltb}
 use lib.ListN.{length}
 use borrow.Author.Tests.{eq-eqb, ltb-true, ltb-false, not-true}
-use Rattle.message.specs.Message.{Message, line}
+use Rattle.message.specs.Message.{line}
 use Rattle.message.specs.Delivery.{Delivery}
 use Rattle.line.specs.Line.{WellFormed}
 use Rattle.machine.specs.declared.Sheet.{Sheet}
@@ -22,13 +22,13 @@ use Rattle.machine.specs.Reader.{Told, News, Other, Impossible, Reported
 use Rattle.machine.specs.TwoDevices.{after, sheetOf, packetsOf, connects, connectedAtEnd, linesTo, linesOf, sentTo, clockOf}
 use Rattle.machine.specs.Tells.{newsIn, lineNews, viewIn, fileView, ViewTells, FileTells, readingAt, upToLine, goesOn, mayGoOn, leavesOpen}
 use Rattle.machine.proofs.TestLaws.{and-true, cond-either, cond-cases}
-use Rattle.machine.proofs.PlacesLaws.{each-behind}
-use Rattle.machine.proofs.ShapeLaws.{ReportAt, ReportsAt, by-shape}
+use Rattle.machine.proofs.PlacesLaws.{each-behind, each-weaker}
+use Rattle.machine.proofs.ShapeLaws.{Held, ReportsOf, by-shape}
 use Rattle.machine.proofs.FileLaws.{line-parses}
 use Rattle.machine.proofs.Sent.{sent-well-formed}
 use Rattle.machine.proofs.ListLaws.{sheet-is, sent-packets}
 use Rattle.machine.proofs.ArchiveLaws.{lines-packed, each-to}
-use Rattle.machine.proofs.TellsLaws.{view-in-append, tells}
+use Rattle.machine.proofs.TellsLaws.{view-in-append, lines-say, tells}
 use Rattle.machine.proofs.MomentLaws.{still-on, more-lines}
 
 -- Lists that are cut in two ways.
@@ -65,11 +65,6 @@ module _ (sheet : Sheet) where
   unfolding viewIn viewAfter
   view-still j [] v h = refl
   view-still j (l ∷ ls) v h = ap (λ w. viewIn sheet j ls (viewAfter j w v)) (h .0) ∙ view-still j ls v (h .1)
-
-  -- what holds of messages' news holds of their lines'
-  lines-say : (Q : News → Type 0) (ms : List Message) → Each WellFormed ms → Each (λ m. Q (news sheet m)) ms → Each (λ l. Q (lineNews sheet l)) (map line ms)
-  lines-say Q [] w h = tt
-  lines-say Q (m ∷ ms) w h = (subst (λ p. Q (newsIn sheet p)) (sym (line-parses m (w .0))) (h .0), lines-say Q ms (w .1) (h .1))
 
   -- the next line may be of the same call
   abbrev pub opens : List ℕ → List (List ℕ) → Bool
@@ -123,8 +118,9 @@ call-settles s call a = by-shape (λ ds. Each WellFormed (sentTo a ds) → Settl
     t : ℕ
     t = step s call .next .clock
 
-    at-clock : (ds : List Delivery) → ReportsAt (s .sheet) t ds → Each WellFormed (sentTo a ds) → Each (LineAt (s .sheet) t) (map line (sentTo a ds))
-    at-clock ds q w = lines-say (s .sheet) (λ v. (k : ℕ) × ((r : Told) × ((v ≡ Reported k r) × (r .time ≡ t)))) (sentTo a ds) w (each-to (ReportAt (s .sheet) t) a ds q)
+    at-clock : (ds : List Delivery) → ReportsOf (s .sheet) (step s call .next) ds → Each WellFormed (sentTo a ds) → Each (LineAt (s .sheet) t) (map line (sentTo a ds))
+    at-clock ds q w = each-weaker (λ l. Held (s .sheet) (step s call .next) (lineNews (s .sheet) l)) (LineAt (s .sheet) t) (λ l h. (h .0, (_, (h .1 .1, refl)))) (map line (sentTo a ds))
+        (lines-say (s .sheet) (Held (s .sheet) (step s call .next)) (sentTo a ds) w (each-to (λ m. Held (s .sheet) (step s call .next) (news (s .sheet) m)) a ds q))
 
 -- A list of calls.
 

@@ -47,6 +47,7 @@ pub mod KnownLaws
 pub mod SettledLaws
 pub mod ArchiveLaws
 pub mod TellsLaws
+pub mod ReportLaws
 pub mod MomentLaws
 pub mod PeakLaws
 pub mod ClockLaws

@@ -1,25 +1,26 @@
--- Under a differential every valid reading lies within the difference of a valid report that is in the file, and so do the highest of both.
+-- Under auto, event and differential every valid reading lies within the strategy's reach of a valid report that is in the file, and so do the highest of both.
 use Prim.Native.Nat.{ℕ, _+_, _*_, _≤_, _<_}
 use native.Mathlib.Omega.{arith}
 use mathlib.Core.Path.{_≡_, refl, ap, sym, _∙_, subst}
 use mathlib.Core.Bool.{Bool, true, false, cond, _&&_, _||_, true≢false}
 use mathlib.Core.List.{List, [], _∷_, _++_, map, append-assoc, append-nil, append-cancel-left}
-use mathlib.Core.Option.{some, Option·some-injective}
+use mathlib.Core.Option.{Option, none, some, Option·some-injective}
 use lib.Dec.{eqb, ltb}
 use borrow.Author.Tests.{eqb-true, ltb-true, ltb-false}
 use Rattle.value.specs.declared.Sample.{Sample}
 use Rattle.machine.specs.declared.Sensor.{Sensor}
 use Rattle.machine.specs.declared.Sheet.{Sheet}
 use Rattle.machine.specs.declared.Strategy.{Strategy}
-use Rattle.machine.specs.declared.Strategy.the-variants.{Differential}
+use Rattle.machine.specs.declared.Strategy.the-variants.{None, Auto, Period, Event, Differential, EventRate, DifferentialRate}
 use Rattle.machine.specs.Places.{any, has, Each}
 use Rattle.machine.specs.Sheet.{sensorOf}
 use Rattle.machine.specs.Range.{isNone}
+use Rattle.machine.specs.Messages.{statusFor}
 use Rattle.machine.specs.Report.{isValid, apart, width}
 use Rattle.machine.specs.Declined.{Call}
 use Rattle.machine.specs.Reader.{Told, News, Other, Impossible, Reported, SetTo, validStatus, View, viewAfter, noView}
 use Rattle.machine.specs.TwoDevices.{sheetOf, connectedAtEnd, linesOf, strategyOf, clockOf}
-use Rattle.machine.specs.Tells.{lineNews, viewIn, fileView, Near, Known, readingAt, moments, validNumbers, validIn, validReports, highest, UnderDifferential, KeepsStrategy, PeakBounded, TellsAt}
+use Rattle.machine.specs.Tells.{lineNews, viewIn, fileView, Known, readingAt, moments, validNumbers, validIn, validReports, highest, reach, Under, KeepsStrategy, PeakBounded, TellsAt}
 use Rattle.machine.proofs.TestLaws.{or-in, eqb-refl, cond-either, cond-cases}
 use Rattle.machine.proofs.SampleRange.{valid-is}
 use Rattle.machine.proofs.PlacesLaws.{each-map, each-front}
@@ -52,6 +53,10 @@ highest-has v (n ∷ ns) h = go (eqb v n) (ltb (highest ns) n) refl refl h (high
     go true false p q r ih = omega (arith, eqb-true v n p, ltb-false (highest ns) n q)
     go false true p q r ih = omega (arith, ih r, ltb-true (highest ns) n q)
     go false false p q r ih = ih r
+
+abbrev isReach : Option ℕ → Bool
+isReach none = false
+isReach (some w) = true
 
 -- The last report is in the file.
 
@@ -87,17 +92,38 @@ module _ (sheet : Sheet) (j : ℕ) where
       (λ q. last-of-line P (lineNews sheet l) v r ok q old (λ t. now (has-before (r .value) (validIn j (lineNews sheet l)) (validReports sheet j ls) t)))
       (λ q. now (has-behind (r .value) (validIn j (lineNews sheet l)) (validReports sheet j ls) q))
 
--- Readings under a differential.
+-- Readings under a strategy that has a reach.
 
--- a valid reading has a valid report in the file that it lies within the difference of
-abbrev pub Covered : List ℕ → ℕ → ℕ → List (List ℕ) → Sample → Type 0
-Covered bytes j d file x = isValid x ≡ true → (v : ℕ) × ((has v (validReports (sheetOf bytes) j file) ≡ true) × (apart (x .number) v * 1000000 ≤ width (sensorOf (sheetOf bytes) j) d))
+module _ (n : Sensor) (clock : ℕ) (x : Sample) (r : Told) where
+  reached : (st : Strategy) (w : ℕ) → reach n st ≡ some w → Known n clock x st r → (statusFor n x ≡ r .status) × (isValid x ≡ true → apart (x .number) (r .value) * 1000000 ≤ w)
+  reached None w e k = absurd (true≢false (sym (ap isReach e)))
+  reached Auto w e k = (k .0, λ _. omega (arith, k .1))
+  reached (Period p) w e k = absurd (true≢false (sym (ap isReach e)))
+  reached Event w e k = (k .0, λ _. omega (arith, k .1))
+  reached (Differential d) w e k = (k .0, λ v. omega (arith, k .1 v, Option·some-injective (width n d) w e))
+  reached (EventRate a b) w e k = absurd (true≢false (sym (ap isReach e)))
+  reached (DifferentialRate d a b) w e k = absurd (true≢false (sym (ap isReach e)))
+
+-- a strategy that has one is not none
+reach-some : (n : Sensor) (st : Strategy) (w : ℕ) → reach n st ≡ some w → isNone st ≡ false
+unfolding isNone
+reach-some n None w e = absurd (true≢false (sym (ap isReach e)))
+reach-some n Auto w e = refl
+reach-some n (Period p) w e = refl
+reach-some n Event w e = refl
+reach-some n (Differential d) w e = refl
+reach-some n (EventRate a b) w e = refl
+reach-some n (DifferentialRate d a b) w e = refl
+
+-- a valid reading has a valid report in the file that it lies within w of
+abbrev Covered : List ℕ → ℕ → ℕ → List (List ℕ) → Sample → Type 0
+Covered bytes j w file x = isValid x ≡ true → (v : ℕ) × ((has v (validReports (sheetOf bytes) j file) ≡ true) × (apart (x .number) v * 1000000 ≤ w))
 
 -- at a moment whose lines are a start of the file
-covered-then : (bytes : List ℕ) (a j d : ℕ) → j < sheetOf bytes .count → (file : List (List ℕ)) (g : List Call) (rest : List (List ℕ))
-    → connectedAtEnd bytes a g ≡ true → file ≡ linesOf bytes a g ++ rest → strategyOf bytes a j g ≡ Differential d → Covered bytes j d file (readingAt bytes j g)
-unfolding isNone
-covered-then bytes a j d hs file g rest on f st valid = (
+covered-then : (bytes : List ℕ) (a j w : ℕ) (st : Strategy) → j < sheetOf bytes .count → reach (sensorOf (sheetOf bytes) j) st ≡ some w
+    → (file : List (List ℕ)) (g : List Call) (rest : List (List ℕ)) → connectedAtEnd bytes a g ≡ true → file ≡ linesOf bytes a g ++ rest → strategyOf bytes a j g ≡ st
+    → Covered bytes j w file (readingAt bytes j g)
+covered-then bytes a j w st hs re file g rest on f set valid = (
   r .value,
   (
     subst (λ ls. has (r .value) (validReports (sheetOf bytes) j ls) ≡ true) (sym f)
@@ -113,42 +139,42 @@ covered-then bytes a j d hs file g rest on f st valid = (
     n = sensorOf (sheetOf bytes) j
 
     told : (r : Told) × (fileView (sheetOf bytes) j (linesOf bytes a g) .last ≡ some r)
-    told = t .reading-told .was-reported (ap isNone (t .strategy-told ∙ st))
+    told = t .reading-told .was-reported (ap isNone (t .strategy-told ∙ set) ∙ reach-some n st w re)
 
     r : Told
     r = told .0
 
-    near : Near n d (readingAt bytes j g) r
-    near = subst (λ st. Known n (clockOf bytes g) (readingAt bytes j g) st r) (t .strategy-told ∙ st) (t .reading-told .tells r (told .1) (clockOf bytes g) (omega arith))
+    near : (statusFor n (readingAt bytes j g) ≡ r .status) × (isValid (readingAt bytes j g) ≡ true → apart (readingAt bytes j g .number) (r .value) * 1000000 ≤ w)
+    near = reached n (clockOf bytes g) (readingAt bytes j g) r st w re
+        (subst (λ st. Known n (clockOf bytes g) (readingAt bytes j g) st r) (t .strategy-told ∙ set) (t .reading-told .tells r (told .1) (clockOf bytes g) (omega arith)))
 
     listed : has (r .value) (validReports (sheetOf bytes) j (linesOf bytes a g)) ≡ true
     listed = last-in (sheetOf bytes) j (has (r .value) (validReports (sheetOf bytes) j (linesOf bytes a g)) ≡ true) (linesOf bytes a g) _ r
         (ap validStatus (sym (near .0)) ∙ (sym (valid-is n (readingAt bytes j g)) ∙ valid)) (told .1) (λ q. absurd (true≢false (sym (ap isThere q)))) (λ q. q)
 
-module _ (bytes : List ℕ) (a j d : ℕ) (later h : List Call) (u : UnderDifferential bytes a j d later h) where
+module _ (bytes : List ℕ) (a j w : ℕ) (st : Strategy) (later h : List Call) (u : Under bytes a j st later h) (re : reach (sensorOf (sheetOf bytes) j) st ≡ some w) where
   abbrev file : List (List ℕ)
   file = linesOf bytes a (later ++ h)
 
-  covered : Each (λ g. strategyOf bytes a j g ≡ Differential d → Covered bytes j d file (readingAt bytes j g)) (moments later h)
-  covered = each-moment bytes a h (λ g. strategyOf bytes a j g ≡ Differential d → Covered bytes j d file (readingAt bytes j g)) file
-      (λ g more rest on m f st. covered-then bytes a j d (u .on-sheet) file g rest on f st) later [] (u .earlier .same-connection) (u .earlier .at-end) (sym (append-nil file))
+  covered : Each (λ g. strategyOf bytes a j g ≡ st → Covered bytes j w file (readingAt bytes j g)) (moments later h)
+  covered = each-moment bytes a h (λ g. strategyOf bytes a j g ≡ st → Covered bytes j w file (readingAt bytes j g)) file
+      (λ g more rest on m f set. covered-then bytes a j w st (u .on-sheet) re file g rest on f set) later [] (u .earlier .same-connection) (u .earlier .at-end) (sym (append-nil file))
 
-  all-covered : Each (Covered bytes j d file) (map (readingAt bytes j) (moments later h))
-  all-covered = each-map (Covered bytes j d file) (readingAt bytes j) (moments later h) (both (moments later h) covered (u .set-since))
+  all-covered : Each (Covered bytes j w file) (map (readingAt bytes j) (moments later h))
+  all-covered = each-map (Covered bytes j w file) (readingAt bytes j) (moments later h) (both (moments later h) covered (u .set-since))
     where
-      both : (gs : List (List Call)) → Each (λ g. strategyOf bytes a j g ≡ Differential d → Covered bytes j d file (readingAt bytes j g)) gs
-          → Each (λ g. strategyOf bytes a j g ≡ Differential d) gs → Each (λ g. Covered bytes j d file (readingAt bytes j g)) gs
+      both : (gs : List (List Call)) → Each (λ g. strategyOf bytes a j g ≡ st → Covered bytes j w file (readingAt bytes j g)) gs
+          → Each (λ g. strategyOf bytes a j g ≡ st) gs → Each (λ g. Covered bytes j w file (readingAt bytes j g)) gs
       both [] p q = tt
       both (g ∷ gs) p q = (p .0 (q .0), both gs (p .1) (q .1))
 
-  highest-covered : (xs : List Sample) → Each (Covered bytes j d file) xs
-      → highest (validNumbers xs) * 1000000 ≤ highest (validReports (sheetOf bytes) j file) * 1000000 + width (sensorOf (sheetOf bytes) j) d
+  highest-covered : (xs : List Sample) → Each (Covered bytes j w file) xs → highest (validNumbers xs) * 1000000 ≤ highest (validReports (sheetOf bytes) j file) * 1000000 + w
   unfolding highest
   highest-covered [] p = omega arith
   highest-covered (x ∷ xs) p = go (isValid x) refl (highest-covered xs (p .1))
     where
       top : ℕ
-      top = highest (validReports (sheetOf bytes) j file) * 1000000 + width (sensorOf (sheetOf bytes) j) d
+      top = highest (validReports (sheetOf bytes) j file) * 1000000 + w
 
       one : isValid x ≡ true → x .number * 1000000 ≤ top
       one e = let c = p .0 e in omega (arith, c .1 .1, highest-has (c .0) (validReports (sheetOf bytes) j file) (c .1 .0))
@@ -176,14 +202,13 @@ module _ (sheet : Sheet) (j : ℕ) (st : Strategy) where
   kept-in [] v e k = e
   kept-in (l ∷ ls) v e k = kept-in ls _ (kept-by (lineNews sheet l) v e (k .0)) (k .1)
 
-set-at : (bytes : List ℕ) (a j d : ℕ) → j < sheetOf bytes .count → (h g : List Call) (more rest behind : List (List ℕ)) → connectedAtEnd bytes a g ≡ true
+set-at : (bytes : List ℕ) (a j : ℕ) (st : Strategy) → j < sheetOf bytes .count → (h g : List Call) (more rest behind : List (List ℕ)) → connectedAtEnd bytes a g ≡ true
     → linesOf bytes a g ≡ linesOf bytes a h ++ more → linesOf bytes a h ++ behind ≡ linesOf bytes a g ++ rest
-    → fileView (sheetOf bytes) j (linesOf bytes a h) .strategy ≡ Differential d → Each (λ l. KeepsStrategy j (Differential d) (lineNews (sheetOf bytes) l)) behind
-    → strategyOf bytes a j g ≡ Differential d
-set-at bytes a j d hs h g more rest behind on m f st k =
+    → fileView (sheetOf bytes) j (linesOf bytes a h) .strategy ≡ st → Each (λ l. KeepsStrategy j st (lineNews (sheetOf bytes) l)) behind → strategyOf bytes a j g ≡ st
+set-at bytes a j st hs h g more rest behind on m f set k =
     sym (tells bytes a g on j hs .strategy-told)
     ∙ (ap (λ ls. fileView (sheetOf bytes) j ls .strategy) m ∙ (ap (λ (v : View). v .strategy) (view-in-append (sheetOf bytes) j (linesOf bytes a h) more noView)
-    ∙ kept-in (sheetOf bytes) j (Differential d) more _ st (each-front _ more rest (subst (Each (λ l. KeepsStrategy j (Differential d) (lineNews (sheetOf bytes) l))) split k))))
+    ∙ kept-in (sheetOf bytes) j st more _ set (each-front _ more rest (subst (Each (λ l. KeepsStrategy j st (lineNews (sheetOf bytes) l))) split k))))
   where
     split : behind ≡ more ++ rest
     split = append-cancel-left (linesOf bytes a h) behind (more ++ rest) (f ∙ (ap (λ l. l ++ rest) m ∙ append-assoc (linesOf bytes a h) more rest))
@@ -191,12 +216,12 @@ set-at bytes a j d hs h g more rest behind on m f st k =
 -- peaks
 pub peak-bounded : PeakBounded
 peak-bounded = record {
-  within = λ bytes a j d later h u. all-covered bytes a j d later h u;
-  peak = λ bytes a j d later h u. highest-covered bytes a j d later h u (map (readingAt bytes j) (moments later h)) (all-covered bytes a j d later h u);
-  as-shown = λ bytes a j d later h behind e hs f st k. record {
+  within = λ bytes a j w st later h u re. all-covered bytes a j w st later h u re;
+  peak = λ bytes a j w st later h u re. highest-covered bytes a j w st later h u re (map (readingAt bytes j) (moments later h)) (all-covered bytes a j w st later h u re);
+  as-shown = λ bytes a j st later h behind e hs f set k. record {
     earlier = e;
     on-sheet = hs;
-    set-since = each-moment bytes a h (λ g. strategyOf bytes a j g ≡ Differential d) (linesOf bytes a h ++ behind)
-        (λ g more rest on m f. set-at bytes a j d hs h g more rest behind on m f st k) later [] (e .same-connection) (e .at-end) (sym f ∙ sym (append-nil (linesOf bytes a (later ++ h))));
+    set-since = each-moment bytes a h (λ g. strategyOf bytes a j g ≡ st) (linesOf bytes a h ++ behind)
+        (λ g more rest on m f. set-at bytes a j st hs h g more rest behind on m f set k) later [] (e .same-connection) (e .at-end) (sym f ∙ sym (append-nil (linesOf bytes a (later ++ h))));
   };
 }

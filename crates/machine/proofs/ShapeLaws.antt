@@ -1,4 +1,4 @@
--- What one call sends, as it tells of subscriptions: nothing; or reports at the clock of the call's end; or a sampling reply and then such reports.
+-- What one call sends, as it tells of subscriptions: nothing; or reports of the readings at the call's end; or a sampling reply and then such reports.
 use Prim.Native.Nat.{ℕ, suc, _/_, _%_, _<_}
 use native.Mathlib.Omega.{arith}
 use mathlib.Core.Path.{_≡_, refl}
@@ -26,7 +26,7 @@ use Rattle.machine.specs.Report.{Work, dueAt, pairSends, visit}
 use Rattle.machine.specs.Requests.{listed, strategyAsked, sampledSends, sampling, answer}
 use Rattle.machine.specs.Declined.{Action, Connect, Disconnect, Tick, Reading, Log, Line, Call, tickFits, samplingDeclined, argumentsDeclined, actionDeclined}
 use Rattle.machine.specs.Machine.{Effect, sampleGiven, perform, step}
-use Rattle.machine.specs.Reader.{Told, Reported, SetTo, news, toldOf}
+use Rattle.machine.specs.Reader.{News, Reported, SetTo, news, toldOf}
 use Rattle.machine.proofs.TestLaws.{and-true, cond-cases, cond-true, fitted}
 use Rattle.machine.proofs.PlacesLaws.{each-gather, each-one, each-weaker, each-map}
 use Rattle.machine.proofs.StateLaws.{due-below}
@@ -39,38 +39,38 @@ use Rattle.machine.proofs.SampleRange.{Reportable, reportable, reportab
 use Rattle.machine.proofs.NewsLaws.{report-told}
 use Rattle.machine.proofs.SamplingNews.{setting-told, query-told}
 
--- a report at the clock t
-abbrev pub ReportAt : Sheet → ℕ → Message → Type 0
-ReportAt sheet t m = (k : ℕ) × ((r : Told) × ((news sheet m ≡ Reported k r) × (r .time ≡ t)))
+-- news of a reading that a state holds, at its clock
+abbrev pub Held : Sheet → State → News → Type 0
+Held sheet s w = (k : ℕ) × ((k < sheet .count) × (w ≡ Reported k (toldOf (sensorOf sheet k) (s .clock) (present s k))))
 
--- deliveries that are such reports
-abbrev pub ReportsAt : Sheet → ℕ → List Delivery → Type 0
-ReportsAt sheet t ds = Each (λ (d : Delivery). ReportAt sheet t (d .message)) ds
+-- deliveries that are reports of such
+abbrev pub ReportsOf : Sheet → State → List Delivery → Type 0
+ReportsOf sheet s ds = Each (λ (d : Delivery). Held sheet s (news sheet (d .message))) ds
 
 -- P holds of what is sent, if it holds of each of the three
 abbrev Shaped : Sheet → (List Delivery → Type 0) → Work → Type 0
 Shaped sheet P w = ((ds : List Delivery) → Quiet sheet ds → P ds)
-    → ((ds : List Delivery) → ReportsAt sheet (w .next .clock) ds → P ds)
-    → ((c : ℕ) (m : Message) (js : List ℕ) (st : Strategy) (ds : List Delivery) → news sheet m ≡ SetTo js st → ReportsAt sheet (w .next .clock) ds → (isNone st ≡ true → ds ≡ []) → P (to c m ∷ ds))
+    → ((ds : List Delivery) → ReportsOf sheet (w .next) ds → P ds)
+    → ((c : ℕ) (m : Message) (js : List ℕ) (st : Strategy) (ds : List Delivery) → news sheet m ≡ SetTo js st → ReportsOf sheet (w .next) ds → (isNone st ≡ true → ds ≡ []) → P (to c m ∷ ds))
     → P (w .sent)
 
 -- Reports.
 
-report-at : (s : State) → sensorsOk (s .sheet) ≡ true → Reportable s → (j : ℕ) → j < s .sheet .count → ReportAt (s .sheet) (s .clock) (reportOf (s .sheet) s j)
-report-at s h r j l = (j, (toldOf (sensorOf (s .sheet) j) (s .clock) (present s j), (report-told s h r j l, refl)))
+report-of : (s : State) → sensorsOk (s .sheet) ≡ true → Reportable s → (j : ℕ) → j < s .sheet .count → Held (s .sheet) s (news (s .sheet) (reportOf (s .sheet) s j))
+report-of s h r j l = (j, (l, report-told s h r j l))
 
 -- of a visit
-visit-reports : (s : State) → sensorsOk (s .sheet) ≡ true → Reportable s → (cause : Cause) → ReportsAt (s .sheet) (s .clock) (visit (s .sheet) s cause .sent)
+visit-reports : (s : State) → sensorsOk (s .sheet) ≡ true → Reportable s → (cause : Cause) → ReportsOf (s .sheet) s (visit (s .sheet) s cause .sent)
 unfolding pairSends
-visit-reports s h r cause = each-gather (λ (d : Delivery). ReportAt (s .sheet) (s .clock) (d .message)) (pairSends (s .sheet) s cause) 256 (λ p l.
-    each-one (λ (d : Delivery). ReportAt (s .sheet) (s .clock) (d .message)) (dueAt (s .sheet) s cause (p / 32) (p % 32) (pairAt s p)) _
-    (λ t. report-at s h r (p % 32) (due-below (s .sheet) s cause (p / 32) (p % 32) (pairAt s p) t)))
+visit-reports s h r cause = each-gather (λ (d : Delivery). Held (s .sheet) s (news (s .sheet) (d .message))) (pairSends (s .sheet) s cause) 256 (λ p l.
+    each-one (λ (d : Delivery). Held (s .sheet) s (news (s .sheet) (d .message))) (dueAt (s .sheet) s cause (p / 32) (p % 32) (pairAt s p)) _
+    (λ t. report-of s h r (p % 32) (due-below (s .sheet) s cause (p / 32) (p % 32) (pairAt s p) t)))
 
 -- one for each name
 named-reports : (s : State) → sensorsOk (s .sheet) ≡ true → Reportable s → (c : ℕ) (js : List ℕ) → any (notOnSheet (s .sheet)) js ≡ false
-    → ReportsAt (s .sheet) (s .clock) (map (λ j. to c (reportOf (s .sheet) s j)) js)
-named-reports s h r c js known = each-map (λ (d : Delivery). ReportAt (s .sheet) (s .clock) (d .message)) (λ j. to c (reportOf (s .sheet) s j)) js
-    (each-weaker (λ j. j < s .sheet .count) _ (λ j l. report-at s h r j l) js (places-below (s .sheet) js known))
+    → ReportsOf (s .sheet) s (map (λ j. to c (reportOf (s .sheet) s j)) js)
+named-reports s h r c js known = each-map (λ (d : Delivery). Held (s .sheet) s (news (s .sheet) (d .message))) (λ j. to c (reportOf (s .sheet) s j)) js
+    (each-weaker (λ j. j < s .sheet .count) _ (λ j l. report-of s h r j l) js (places-below (s .sheet) js known))
 
 -- Calls.
 
@@ -80,7 +80,7 @@ module _ (P : List Delivery → Type 0) (s : State) (r : InRange s) where
   sampling-shape c hc m e d = cond-cases (Shaped (s .sheet) P) (eqb (length (m .args)) 1) _ _
       (λ q quiet reports set. set c _ _ _ [] (query-told s r c hc m e d q) tt (λ _. refl))
       (λ q quiet reports set. set c _ _ (strategyAsked (s .sheet) m) _ (setting-told (s .sheet) (r .sensors-in) m e d q)
-      (cond-cases (ReportsAt (s .sheet) (s .clock)) (isNone (strategyAsked (s .sheet) m)) [] _ (λ n. tt)
+      (cond-cases (ReportsOf (s .sheet) s) (isNone (strategyAsked (s .sheet) m)) [] _ (λ n. tt)
       (λ n. named-reports s (r .sensors-in) (reportable s r) c (listed (s .sheet) m) (listed-known (s .sheet) m d .0)))
       (λ n. cond-true (isNone (strategyAsked (s .sheet) m)) [] _ n))
 
@@ -104,8 +104,8 @@ module _ (P : List Delivery → Type 0) (s : State) (r : InRange s) where
 -- every call
 pub by-shape : (P : List Delivery → Type 0) (s : State) (call : Call)
     → ((ds : List Delivery) → Quiet (s .sheet) ds → P ds)
-    → ((ds : List Delivery) → ReportsAt (s .sheet) (step s call .next .clock) ds → P ds)
-    → ((c : ℕ) (m : Message) (js : List ℕ) (st : Strategy) (ds : List Delivery) → news (s .sheet) m ≡ SetTo js st → ReportsAt (s .sheet) (step s call .next .clock) ds → (isNone st ≡ true → ds ≡ []) → P (to c m ∷ ds))
+    → ((ds : List Delivery) → ReportsOf (s .sheet) (step s call .next) ds → P ds)
+    → ((c : ℕ) (m : Message) (js : List ℕ) (st : Strategy) (ds : List Delivery) → news (s .sheet) m ≡ SetTo js st → ReportsOf (s .sheet) (step s call .next) ds → (isNone st ≡ true → ds ≡ []) → P (to c m ∷ ds))
     → P (step s call .sent)
 by-shape P s call = by-cases (λ (e : Effect). Shaped (s .sheet) P (record { sent = e .sent; next = e .next })) s call
     (λ e. let a = accepted s call e in action-shape P s (range-out s (a .in-range)) (call .action) (a .fits))

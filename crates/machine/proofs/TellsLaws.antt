@@ -20,7 +20,7 @@ use Rattle.machine.specs.Sheet.{sensorOf}
 use Rattle.machine.specs.State.{connected, present, pairOf}
 use Rattle.machine.specs.Declined.{Call}
 use Rattle.machine.specs.Machine.{step}
-use Rattle.machine.specs.Reader.{Told, Impossible, news, View, viewAfter, viewBy, noView, viewOf, standing, toldOf}
+use Rattle.machine.specs.Reader.{Told, News, Impossible, news, View, viewAfter, viewBy, noView, viewOf, standing, toldOf}
 use Rattle.machine.specs.TwoDevices.{after, sheetOf, connectedAtEnd, linesOf, messagesOf, strategyOf, lastReport, later}
 use Rattle.machine.specs.Tells.{newsIn, lineNews, viewIn, fileView, Known, ViewTells, readingAt, TellsAt, Tells, wholeLines, FileCut}
 use Rattle.machine.proofs.SheetLaws.{Sensors, sensors-out}
@@ -40,6 +40,11 @@ pub view-lines : (sheet : Sheet) (j : ℕ) (ms : List Message) (v : View) → Ea
 unfolding viewIn viewBy
 view-lines sheet j [] v w = refl
 view-lines sheet j (m ∷ ms) v w = ap (λ p. viewIn sheet j (map line ms) (viewAfter j (newsIn sheet p) v)) (line-parses m (w .0)) ∙ view-lines sheet j ms _ (w .1)
+
+-- what holds of messages' news holds of their lines'
+pub lines-say : (sheet : Sheet) (Q : News → Type 0) (ms : List Message) → Each WellFormed ms → Each (λ m. Q (news sheet m)) ms → Each (λ l. Q (lineNews sheet l)) (map line ms)
+lines-say sheet Q [] w h = tt
+lines-say sheet Q (m ∷ ms) w h = (subst (λ p. Q (newsIn sheet p)) (sym (line-parses m (w .0))) (h .0), lines-say sheet Q ms (w .1) (h .1))
 
 pub view-in-append : (sheet : Sheet) (j : ℕ) (xs ys : List (List ℕ)) (v : View) → viewIn sheet j (xs ++ ys) v ≡ viewIn sheet j ys (viewIn sheet j xs v)
 unfolding viewIn

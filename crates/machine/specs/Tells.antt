@@ -51,15 +51,15 @@ fileView sheet j ls = viewIn sheet j ls noView
 
 -- What a last report tells of the present reading x, by strategy, where the clock is `now`.
 
--- "status and value are those of the last report"
+-- status and value are those of the report
 abbrev pub Same : Sensor → Sample → Told → Type 0
 Same n x r = (statusFor n x ≡ r .status) × (x .number ≡ r .value)
 
--- "the status is, and where it is valid the value lies at most the difference from it"
+-- the status is that of the report and, where it is valid, the value lies at most the difference from it
 abbrev pub Near : Sensor → ℕ → Sample → Told → Type 0
 Near n d x r = (statusFor n x ≡ r .status) × (isValid x ≡ true → apart (x .number) (r .value) * 1000000 ≤ width n d)
 
--- "the rate kinds once the shortest period has passed; period and none: nothing"
+-- auto and event: the same; differential: near it; the rate kinds likewise, once the shortest period has passed; period and none: nothing
 abbrev pub Known : Sensor → ℕ → Sample → Strategy → Told → Type 0
 Known n now x None r = Unit
 Known n now x Auto r = Same n x r
@@ -102,12 +102,12 @@ unfoldable pub connectsIn : List ℕ → ℕ → List Call → List Call → Boo
 connectsIn bytes a [] h = false
 connectsIn bytes a (call ∷ later) h = connects bytes a (later ++ h) call || connectsIn bytes a later h
 
--- "earlier point of the list in the same connection": h, where the calls `later` follow
+-- an earlier moment of the archive's connection: behind the calls h, where the calls `later` follow
 pub record Earlier (bytes : List ℕ) (a : ℕ) (later h : List Call) : Type 0 where
   pub at-end : connectedAtEnd bytes a (later ++ h) ≡ true
   pub same-connection : connectsIn bytes a later h ≡ false
 
--- "the archive's lines up to there are a start of the file, and (a) holds there"
+-- the archive is connected there too, its lines up to there are a start of the file, and these tell the readings as they are there
 pub record Moment (bytes : List ℕ) (a : ℕ) (later h : List Call) : Type 0 where
   pub connected-then : connectedAtEnd bytes a h ≡ true
   pub start : (rest : List (List ℕ)) × (linesOf bytes a (later ++ h) ≡ linesOf bytes a h ++ rest)
@@ -146,11 +146,22 @@ unfoldable pub highest : List ℕ → ℕ
 highest [] = 0
 highest (n ∷ ns) = cond (ltb (highest ns) n) n (highest ns)
 
--- sensor j has had differential d from the moment h on
-pub record UnderDifferential (bytes : List ℕ) (a j d : ℕ) (later h : List Call) : Type 0 where
+-- how far a valid reading can lie from the report that stands, on the scale of `width`: not at all under auto and event, at most the difference under
+-- differential; under the others any distance goes unseen, for a time or for good
+abbrev pub reach : Sensor → Strategy → Option ℕ
+reach n None = none
+reach n Auto = some 0
+reach n (Period p) = none
+reach n Event = some 0
+reach n (Differential d) = some (width n d)
+reach n (EventRate shortest longest) = none
+reach n (DifferentialRate d shortest longest) = none
+
+-- sensor j has had the strategy st from the moment h on
+pub record Under (bytes : List ℕ) (a j : ℕ) (st : Strategy) (later h : List Call) : Type 0 where
   pub earlier : Earlier bytes a later h
   pub on-sheet : j < sheetOf bytes .count
-  pub set-since : Each (λ g. strategyOf bytes a j g ≡ Differential d) (moments later h)
+  pub set-since : Each (λ g. strategyOf bytes a j g ≡ st) (moments later h)
 
 -- a line that names sensor j with no other strategy than st
 abbrev pub KeepsStrategy : ℕ → Strategy → News → Type 0
@@ -159,19 +170,27 @@ KeepsStrategy j st Impossible = Unit
 KeepsStrategy j st (Reported k r) = Unit
 KeepsStrategy j st (SetTo js new) = has j js ≡ true → new ≡ st
 
--- `within`: "every valid reading since a differential was set lies within the difference of the report that stood then", which is in the file.
--- `peak`: "the highest valid reading is at most the highest valid report plus the difference", on the scale of `width`.
--- `as-shown`: the file shows the assumption: its lines up to h set this differential, and those behind name the sensor with no other.
+-- `within`: every valid reading since such a strategy was set lies within its reach of a valid report that is in the file.
+-- `peak`: so the highest valid reading is at most the highest valid report and the reach.
+-- `as-shown`: the file shows the assumption: its lines up to h set this strategy, and those behind name the sensor with no other.
 pub record PeakBounded : Type 0 where
-  pub within : (bytes : List ℕ) (a j d : ℕ) (later h : List Call) → UnderDifferential bytes a j d later h
+  pub within : (bytes : List ℕ) (a j w : ℕ) (st : Strategy) (later h : List Call) → Under bytes a j st later h → reach (sensorOf (sheetOf bytes) j) st ≡ some w
       → Each (λ x. isValid x ≡ true → (v : ℕ) × ((has v (validReports (sheetOf bytes) j (linesOf bytes a (later ++ h))) ≡ true)
-      × (apart (x .number) v * 1000000 ≤ width (sensorOf (sheetOf bytes) j) d))) (map (readingAt bytes j) (moments later h))
-  pub peak : (bytes : List ℕ) (a j d : ℕ) (later h : List Call) → UnderDifferential bytes a j d later h
+      × (apart (x .number) v * 1000000 ≤ w))) (map (readingAt bytes j) (moments later h))
+  pub peak : (bytes : List ℕ) (a j w : ℕ) (st : Strategy) (later h : List Call) → Under bytes a j st later h → reach (sensorOf (sheetOf bytes) j) st ≡ some w
       → highest (validNumbers (map (readingAt bytes j) (moments later h))) * 1000000
-      ≤ highest (validReports (sheetOf bytes) j (linesOf bytes a (later ++ h))) * 1000000 + width (sensorOf (sheetOf bytes) j) d
-  pub as-shown : (bytes : List ℕ) (a j d : ℕ) (later h : List Call) (behind : List (List ℕ)) → Earlier bytes a later h → j < sheetOf bytes .count
-      → linesOf bytes a (later ++ h) ≡ linesOf bytes a h ++ behind → fileView (sheetOf bytes) j (linesOf bytes a h) .strategy ≡ Differential d
-      → Each (λ l. KeepsStrategy j (Differential d) (lineNews (sheetOf bytes) l)) behind → UnderDifferential bytes a j d later h
+      ≤ highest (validReports (sheetOf bytes) j (linesOf bytes a (later ++ h))) * 1000000 + w
+  pub as-shown : (bytes : List ℕ) (a j : ℕ) (st : Strategy) (later h : List Call) (behind : List (List ℕ)) → Earlier bytes a later h → j < sheetOf bytes .count
+      → linesOf bytes a (later ++ h) ≡ linesOf bytes a h ++ behind → fileView (sheetOf bytes) j (linesOf bytes a h) .strategy ≡ st
+      → Each (λ l. KeepsStrategy j st (lineNews (sheetOf bytes) l)) behind → Under bytes a j st later h
+
+-- Reports.
+
+-- every report of a call, under every strategy, tells the reading that its sensor has at the call's end, at the clock that stands then
+abbrev pub ReportsTrue : Type 0
+ReportsTrue = (bytes : List ℕ) (a : ℕ) (h : List Call) (call : Call)
+    → Each (λ l. (k : ℕ) (r : Told) → lineNews (sheetOf bytes) l ≡ Reported k r
+    → r ≡ toldOf (sensorOf (sheetOf bytes) k) (clockOf bytes (call ∷ h)) (readingAt bytes k (call ∷ h))) (linesTo a (packetsOf bytes h call))
 
 -- Auto.
 
@@ -179,8 +198,10 @@ pub record PeakBounded : Type 0 where
 abbrev pub reportGiven : List ℕ → ℕ → Given → List Call → List ℕ
 reportGiven bytes j r h = line (report (clockOf bytes h) (sensorOf (sheetOf bytes) j) (sampleGiven (sensorOf (sheetOf bytes) j) r))
 
--- "Under auto every accepted reading since the setting is a line of the file": the one line that its call gives the archive, behind those before it; and
--- the line tells that reading, at that clock
+-- Under auto every accepted reading is a line of the file.
+-- `own-line`: it is the one line that the reading's call gives the archive, behind those before it.
+-- `in-file`: so it stands there in the file of every later moment of the connection.
+-- `told`: and it tells that reading, at that clock.
 pub record AutoShows : Type 0 where
   pub own-line : (bytes : List ℕ) (a j : ℕ) → j < sheetOf bytes .count → (r : Given) (lent : List ℕ) (h : List Call)
       → connectedAtEnd bytes a h ≡ true → returnedZero bytes h (callOf (Reading j r) lent) ≡ true → strategyOf bytes a j h ≡ Auto
@@ -194,7 +215,7 @@ pub record AutoShows : Type 0 where
 
 -- The clock.
 
--- "a line shows a clock if it is a `#sensor-status` or a `#log`"
+-- a line shows a clock if it is a `#sensor-status` or a `#log`
 abbrev pub showsClock : Parse → Bool
 showsClock malformed = false
 showsClock (message m) = isNamed (code "#") (text "sensor-status") m || isNamed (code "#") (text "log") m
@@ -211,8 +232,9 @@ clockIn (message m) =
 abbrev pub lineClock : List ℕ → Option ℕ
 lineClock l = clockIn (parse (withoutEnd l))
 
--- "The clock never goes back"; each line of a call that shows a clock shows the one at the call's end; "at the end it is at least the clock of every report
--- and log entry in the file"
+-- `never-back`: the unit's clock never goes back.
+-- `shown`: each line of a call that shows a clock shows the one at the call's end.
+-- `at-least`: so the clock is at least that of every report and log entry in the file.
 pub record ClockShown : Type 0 where
   pub never-back : (bytes : List ℕ) (later h : List Call) → clockOf bytes h ≤ clockOf bytes (later ++ h)
   pub shown : (bytes : List ℕ) (a : ℕ) (h : List Call) (call : Call)
@@ -241,8 +263,8 @@ isReportAt t Impossible = false
 isReportAt t (Reported k r) = eqb (r .time) t
 isReportAt t (SetTo js st) = false
 
--- two lines that follow each other may be of one call, which tells more behind the first: reports at one clock, and a report behind a sampling reply with
--- another strategy than none, whose reports "follow it in the same call, unless it answers a query or sets none"
+-- two lines that follow each other may be of one call, which tells more behind the first: two reports at one clock, of one tick or of one setting; and a
+-- report behind a sampling reply with another strategy than none, which sends its reports in the same call unless it answers a query
 abbrev pub goesOn : News → News → Bool
 goesOn Other next = false
 goesOn Impossible next = false
@@ -276,11 +298,10 @@ abbrev pub HoldsUpTo : List ℕ → ℕ → List Call → List (List ℕ) → Li
 HoldsUpTo bytes a h before l j = FileTells (sheetOf bytes) j (before ++ (l ∷ []))
     (clockOf bytes (upToLine bytes a (length before) h)) (readingAt bytes j (upToLine bytes a (length before) h))
 
--- `cut`: "what (a) says of the lines up to some line holds at the end of the call that gave that line", wherever the file is cut behind the lines `seen`, if
--- that line leaves nothing open.
--- `whole`: and "the file ends there, whole".
--- `by-clock`: nothing is left open "if that line is not a `sensor-sampling` reply with `ok` and the next line that shows a clock shows a later one than every
--- line before it".
+-- `cut`: what the lines up to l tell holds at the end of the call that gave l, wherever the file is cut behind the lines `seen`, if l leaves nothing open.
+-- `whole`: and if the file is whole and ends with l.
+-- `by-clock`: a line leaves nothing open if it is no sampling reply with `ok`, and the next line that shows a clock shows a later one than l and every line
+-- before it.
 pub record CutTells : Type 0 where
   pub cut : (bytes : List ℕ) (a : ℕ) (h : List Call) → connectedAtEnd bytes a h ≡ true → (before : List (List ℕ)) (l : List ℕ) (seen unseen : List (List ℕ))
       → linesOf bytes a h ≡ before ++ (l ∷ (seen ++ unseen)) → leavesOpen (sheetOf bytes) l seen ≡ false → (j : ℕ) → j < sheetOf bytes .count
