@@ -20,7 +20,8 @@ use Rattle.machine.specs.Declined.{Call}
 use Rattle.machine.specs.Machine.{step}
 use Rattle.machine.specs.Reader.{Told, News, Other, Impossible, Reported, SetTo, news, View, viewAfter, noView}
 use Rattle.machine.specs.TwoDevices.{after, sheetOf, packetsOf, connects, connectedAtEnd, linesTo, linesOf, sentTo, clockOf}
-use Rattle.machine.specs.Tells.{newsIn, lineNews, viewIn, fileView, ViewTells, FileTells, readingAt, upToLine, goesOn, mayGoOn, leavesOpen}
+use Rattle.machine.specs.Tells.{newsIn, lineNews, viewIn, fileView, ViewTells, FileTells, readingAt}
+use Rattle.machine.specs.Cut.{upToLine, goesOn, mayGoOn, leavesOpen}
 use Rattle.machine.proofs.TestLaws.{and-true, cond-either, cond-cases}
 use Rattle.machine.proofs.PlacesLaws.{each-behind, each-weaker}
 use Rattle.machine.proofs.ShapeLaws.{Held, ReportsOf, by-shape}
@@ -131,6 +132,11 @@ module _ (bytes : List ℕ) (a : ℕ) where
       (subst (Settles (after bytes h .sheet)) (sym (ap (linesTo a) (sent-packets bytes a h call) ∙ lines-packed a ds))
       (call-settles (after bytes h) call a (each-to WellFormed a ds (sent-well-formed (after bytes h) call))))
 
+  -- a line that is not of an earlier call
+  pub from-here : (k : ℕ) (h : List Call) (b : Bool) → (not b && ltb k (length (linesOf bytes a h))) ≡ false → length (cond b [] (linesOf bytes a h)) ≤ k
+  from-here k h true q = omega arith
+  from-here k h false q = ltb-false k (length (linesOf bytes a h)) q
+
   module _ (j : ℕ) (hs : j < sheetOf bytes .count) (before : List (List ℕ)) (l : List ℕ) where
     -- what the lines up to l tell holds behind the calls g
     abbrev pub Concluded : List Call → Type 0
@@ -171,11 +177,7 @@ module _ (bytes : List ℕ) (a : ℕ) where
     cut-at (call ∷ h) behind c e f = cond-cases Concluded (not (connects bytes a h call) && ltb (length before) (length (linesOf bytes a h))) (upToLine bytes a (length before) h) (call ∷ h)
         (λ q. let k = and-true (not (connects bytes a h call)) _ q in
         earlier-call call h (not-true (connects bytes a h call) (k .0)) (ltb-true (length before) (length (linesOf bytes a h)) (k .1)) (cut-at h) behind c e f)
-        (λ q. this-call call h behind c e f (from-here (connects bytes a h call) q))
-      where
-        from-here : (b : Bool) → (not b && ltb (length before) (length (linesOf bytes a h))) ≡ false → length (cond b [] (linesOf bytes a h)) ≤ length before
-        from-here true q = omega arith
-        from-here false q = ltb-false (length before) (length (linesOf bytes a h)) q
+        (λ q. this-call call h behind c e f (from-here (length before) h (connects bytes a h call) q))
 
 -- a reader who sees some of the lines behind
 may-not : (w next : News) → mayGoOn w ≡ false → goesOn w next ≡ false

@@ -2,13 +2,13 @@
 use Prim.Native.Nat.{ℕ, _<_}
 use Prim.Native.Char.{code}
 use native.Mathlib.Omega.{arith}
-use mathlib.Core.Path.{_≡_, refl, ap, sym, _∙_}
-use mathlib.Core.Bool.{Bool, true, false, cond, _&&_, true≢false}
+use mathlib.Core.Path.{_≡_, refl, ap, sym, _∙_, subst}
+use mathlib.Core.Bool.{Bool, true, false, cond, not, _&&_, _||_, true≢false}
 use mathlib.Core.List.{List, [], _∷_, _++_}
 use mathlib.Core.Option.{Option, none, some, Option·some-injective}
 use lib.Dec.{eqb, ltb}
 use lib.ListN.{length}
-use borrow.Author.Tests.{ne-eqb}
+use borrow.Author.Tests.{ne-eqb, ltb-true, not-true}
 use Rattle.output.specs.Text.{text, same}
 use Rattle.output.specs.Read.{readTime}
 use Rattle.message.specs.Message.{Message}
@@ -17,13 +17,16 @@ use Rattle.machine.specs.declared.Sheet.{Sheet}
 use Rattle.machine.specs.Places.{Each}
 use Rattle.machine.specs.Sheet.{sensorOf, placeOf}
 use Rattle.machine.specs.Requests.{argument}
+use Rattle.machine.specs.Declined.{Call}
 use Rattle.machine.specs.Reader.{News, Other, Impossible, Reported, SetTo, reportWith, reportRead, agreed, samplingNews, statusNamed, readValue, agrees, isNamed, isOk, news}
-use Rattle.machine.specs.TwoDevices.{sheetOf, withoutEnd}
-use Rattle.machine.specs.Tells.{newsIn, lineNews, showsClock, clockIn, lineClock, isReport, goesOn, leavesOpen, nextClock, isSamplingOk, CutTells}
-use Rattle.machine.proofs.TestLaws.{cond-either, cond-true}
+use Rattle.machine.specs.TwoDevices.{sheetOf, connects, connectedAtEnd, linesOf, withoutEnd}
+use Rattle.machine.specs.Tells.{newsIn, lineNews, showsClock, clockIn, lineClock, connectsIn}
+use Rattle.machine.specs.Cut.{isReport, goesOn, leavesOpen, nextClock, isSamplingOk, CutTells, upToLine, GaveLine}
+use Rattle.machine.proofs.TestLaws.{and-true, cond-either, cond-cases, cond-true}
 use Rattle.machine.proofs.PlacesLaws.{each-behind}
 use Rattle.machine.proofs.ArchiveLaws.{sampling-either}
-use Rattle.machine.proofs.CutLaws.{cut-at, closed}
+use Rattle.machine.proofs.MomentLaws.{still-on}
+use Rattle.machine.proofs.CutLaws.{from-here, cut-at, closed}
 
 -- the clock of a report
 abbrev clockTold : News → Option ℕ
@@ -129,9 +132,50 @@ module _ (sheet : Sheet) where
       isClock (some t) = true
   later-closes before l (next ∷ rest) t other n h = later-not l next rest t other n (each-behind (λ k. (u : ℕ) → lineClock k ≡ some u → u < t) before (l ∷ []) h .0)
 
+-- The call that gave a line.
+
+module _ (bytes : List ℕ) (a k : ℕ) where
+  -- it was found, at the end of `found`
+  abbrev Found : List Call → List Call → Type 0
+  Found h found = (later : List Call) × ((call : Call) × ((g : List Call) × ((found ≡ call ∷ g) × GaveLine bytes a k h later call g)))
+
+  -- a call more behind it
+  one-more : (call : Call) (h found : List Call) → connects bytes a h call ≡ false → Found h found → Found (call ∷ h) found
+  unfolding connectsIn
+  one-more call h found n f = let r = f .1 .1 .1 .1 in (
+    call ∷ f .0,
+    (
+      f .1 .0,
+      (
+        f .1 .1 .0,
+        (
+          f .1 .1 .1 .0,
+          record {
+            in-list = ap (λ l. call ∷ l) (r .in-list);
+            same-connection = or-none (subst (λ l. connects bytes a l call ≡ false) (r .in-list) n) (r .same-connection);
+            not-before = r .not-before;
+            by-then = r .by-then;
+          },
+        ),
+      ),
+    ),
+  )
+    where
+      or-none : {x y : Bool} → x ≡ false → y ≡ false → (x || y) ≡ false
+      or-none p q = rw (p, q)
+
+  gave : (h : List Call) → connectedAtEnd bytes a h ≡ true → k < length (linesOf bytes a h) → Found h (upToLine bytes a k h)
+  unfolding upToLine connectedAtEnd connectsIn
+  gave [] c l = absurd (true≢false (sym c))
+  gave (call ∷ h) c l = cond-cases (Found (call ∷ h)) (not (connects bytes a h call) && ltb k (length (linesOf bytes a h))) (upToLine bytes a k h) (call ∷ h)
+      (λ q. let p = and-true (not (connects bytes a h call)) _ q in let n = not-true (connects bytes a h call) (p .0) in
+      one-more call h (upToLine bytes a k h) n (gave h (still-on bytes a call h n c) (ltb-true k (length (linesOf bytes a h)) (p .1))))
+      (λ q. ([], (call, (h, (refl, record { in-list = refl; same-connection = refl; not-before = from-here bytes a k h (connects bytes a h call) q; by-then = l })))))
+
 -- a file that is cut
 pub cut-tells : CutTells
 cut-tells = record {
+  given = λ bytes a k h c l. gave bytes a k h c l;
   cut = λ bytes a h c before l seen unseen e f j hs. cut-at bytes a j hs before l h (seen ++ unseen) c e (closed (sheetOf bytes) l seen unseen f);
   whole = λ bytes a h c before l e j hs. cut-at bytes a j hs before l h [] c e refl;
   by-clock = λ sheet before l seen t other n h. later-closes sheet before l seen t other n h;

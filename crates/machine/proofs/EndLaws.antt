@@ -20,7 +20,7 @@ use Rattle.machine.specs.Requests.{Asked, Nothing, NotMessage, Reply, Un
 use Rattle.machine.specs.Declined.{Line, Call, callOf}
 use Rattle.machine.specs.Machine.{Effect, lineWork, perform, step}
 use Rattle.machine.specs.TwoDevices.{after, endsAll, linesTo, linesOf, sentTo}
-use Rattle.machine.specs.Tells.{LastLine}
+use Rattle.machine.specs.Cut.{LastLine}
 use Rattle.machine.proofs.TestLaws.{or-true, eqb-refl}
 use Rattle.machine.proofs.StepLaws.{nameFor, names-apart, by-cases}
 use Rattle.machine.proofs.HeardLaws.{sent-at-one}

@@ -20,7 +20,7 @@ use Rattle.line.specs.Line.{message, letter, nameByte, kindByte, parse, WellFor
 use Rattle.line.proofs.ReadBack.{read-back, written-apart}
 use Rattle.machine.specs.Places.{Each, joined}
 use Rattle.machine.specs.TwoDevices.{withoutEnd}
-use Rattle.machine.specs.Tells.{startWith, wholeLines}
+use Rattle.machine.specs.Cut.{startWith, wholeLines}
 use Rattle.machine.proofs.TestLaws.{and-true, cond-either, cond-false}
 
 -- a byte of a kind that byte 10 is not of

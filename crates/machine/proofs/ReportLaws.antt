@@ -15,7 +15,8 @@ use Rattle.machine.specs.Declined.{Call}
 use Rattle.machine.specs.Machine.{step}
 use Rattle.machine.specs.Reader.{Told, News, Other, Impossible, Reported, SetTo, news, told, toldOf}
 use Rattle.machine.specs.TwoDevices.{after, sheetOf, packetsOf, linesTo, sentTo, clockOf}
-use Rattle.machine.specs.Tells.{lineNews, isReport, readingAt, ReportsTrue}
+use Rattle.machine.specs.Tells.{lineNews, readingAt, ReportsTrue}
+use Rattle.machine.specs.Cut.{isReport}
 use Rattle.machine.proofs.PlacesLaws.{each-weaker}
 use Rattle.machine.proofs.QuietLaws.{Silent}
 use Rattle.machine.proofs.ShapeLaws.{Held, ReportsOf, by-shape}

@@ -22,7 +22,8 @@ use Rattle.machine.specs.Declined.{Call}
 use Rattle.machine.specs.Machine.{step}
 use Rattle.machine.specs.Reader.{Told, News, Impossible, news, View, viewAfter, viewBy, noView, viewOf, standing, toldOf}
 use Rattle.machine.specs.TwoDevices.{after, sheetOf, connectedAtEnd, linesOf, messagesOf, strategyOf, lastReport, later}
-use Rattle.machine.specs.Tells.{newsIn, lineNews, viewIn, fileView, Known, ViewTells, readingAt, TellsAt, Tells, wholeLines, FileCut}
+use Rattle.machine.specs.Tells.{newsIn, lineNews, viewIn, fileView, Known, ViewTells, readingAt, TellsAt, Tells}
+use Rattle.machine.specs.Cut.{wholeLines, FileCut}
 use Rattle.machine.proofs.SheetLaws.{Sensors, sensors-out}
 use Rattle.machine.proofs.OpenedRange.{opened-range}
 use Rattle.machine.proofs.Impossible.{never-impossible}

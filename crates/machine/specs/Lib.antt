@@ -11,6 +11,7 @@ pub mod Machine
 pub mod Reader
 pub mod TwoDevices
 pub mod Tells
+pub mod Cut
 pub mod Others
 pub mod Claims
 pub mod SeveralNames

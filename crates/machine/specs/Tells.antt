@@ -3,11 +3,10 @@
 use Prim.Native.Nat.{ℕ, _+_, _-_, _*_, _≤_, _<_}
 use Prim.Native.Char.{code}
 use mathlib.Core.Path.{_≡_}
-use mathlib.Core.Bool.{Bool, true, false, cond, not, _&&_, _||_}
+use mathlib.Core.Bool.{Bool, true, false, cond, _&&_, _||_}
 use mathlib.Core.List.{List, [], _∷_, _++_, map}
 use mathlib.Core.Option.{Option, none, some}
 use lib.Dec.{eqb, ltb}
-use lib.ListN.{length, take}
 use Rattle.output.specs.Text.{text}
 use Rattle.output.specs.Read.{readTime}
 use Rattle.message.specs.Message.{line}
@@ -18,16 +17,16 @@ use Rattle.machine.specs.declared.Sensor.{Sensor}
 use Rattle.machine.specs.declared.Sheet.{Sheet}
 use Rattle.machine.specs.declared.Strategy.{Strategy}
 use Rattle.machine.specs.declared.Strategy.the-variants.{None, Auto, Period, Event, Differential, EventRate, DifferentialRate}
-use Rattle.machine.specs.Places.{has, Each, joined}
+use Rattle.machine.specs.Places.{has, Each}
 use Rattle.machine.specs.Sheet.{sensorOf}
 use Rattle.machine.specs.Range.{isNone}
-use Rattle.machine.specs.Messages.{disconnect, statusFor, report}
+use Rattle.machine.specs.Messages.{statusFor, report}
 use Rattle.machine.specs.Report.{isValid, apart, width}
 use Rattle.machine.specs.Requests.{argument}
-use Rattle.machine.specs.Declined.{Reading, Line, Call, callOf}
+use Rattle.machine.specs.Declined.{Reading, Call, callOf}
 use Rattle.machine.specs.Machine.{sampleGiven}
-use Rattle.machine.specs.Reader.{Told, News, Other, Impossible, Reported, SetTo, news, isNamed, isOk, validStatus, View, viewAfter, noView, toldOf}
-use Rattle.machine.specs.TwoDevices.{sheetOf, returnedZero, endsAll, connects, connectedAtEnd, linesOf, linesTo, packetsOf, withoutEnd, strategyOf, lastReport, lastReading, sampleFrom, clockOf}
+use Rattle.machine.specs.Reader.{Told, News, Other, Impossible, Reported, SetTo, news, isNamed, validStatus, View, viewAfter, noView, toldOf}
+use Rattle.machine.specs.TwoDevices.{sheetOf, returnedZero, connects, connectedAtEnd, linesOf, linesTo, packetsOf, withoutEnd, strategyOf, lastReport, lastReading, sampleFrom, clockOf}
 
 -- The reader of a file.
 
@@ -241,101 +240,3 @@ pub record ClockShown : Type 0 where
       → Each (λ l. showsClock (parse (withoutEnd l)) ≡ true → lineClock l ≡ some (clockOf bytes (call ∷ h))) (linesTo a (packetsOf bytes h call))
   pub at-least : (bytes : List ℕ) (a : ℕ) (h : List Call)
       → Each (λ l. showsClock (parse (withoutEnd l)) ≡ true → (t : ℕ) × ((lineClock l ≡ some t) × (t ≤ clockOf bytes h))) (linesOf bytes a h)
-
--- A file that is cut.
-
--- the calls up to the one that gave line k of the archive's file, from 0
-unfoldable pub upToLine : List ℕ → ℕ → ℕ → List Call → List Call
-upToLine bytes a k [] = []
-upToLine bytes a k (call ∷ h) = cond (not (connects bytes a h call) && ltb k (length (linesOf bytes a h))) (upToLine bytes a k h) (call ∷ h)
-
--- a report
-abbrev pub isReport : News → Bool
-isReport Other = false
-isReport Impossible = false
-isReport (Reported k r) = true
-isReport (SetTo js st) = false
-
--- a report at the clock t
-abbrev pub isReportAt : ℕ → News → Bool
-isReportAt t Other = false
-isReportAt t Impossible = false
-isReportAt t (Reported k r) = eqb (r .time) t
-isReportAt t (SetTo js st) = false
-
--- two lines that follow each other may be of one call, which tells more behind the first: two reports at one clock, of one tick or of one setting; and a
--- report behind a sampling reply with another strategy than none, which sends its reports in the same call unless it answers a query
-abbrev pub goesOn : News → News → Bool
-goesOn Other next = false
-goesOn Impossible next = false
-goesOn (Reported k r) next = isReportAt (r .time) next
-goesOn (SetTo js st) next = not (isNone st) && isReport next
-
--- the same of a line behind which none is seen
-abbrev pub mayGoOn : News → Bool
-mayGoOn Other = false
-mayGoOn Impossible = false
-mayGoOn (Reported k r) = true
-mayGoOn (SetTo js st) = not (isNone st)
-
--- what a line leaves open to a reader who sees the lines `seen` behind it
-abbrev pub leavesOpen : Sheet → List ℕ → List (List ℕ) → Bool
-leavesOpen sheet l [] = mayGoOn (lineNews sheet l)
-leavesOpen sheet l (next ∷ seen) = goesOn (lineNews sheet l) (lineNews sheet next)
-
--- the clock of the next line that shows one
-abbrev pub nextClock : List (List ℕ) → Option ℕ
-nextClock [] = none
-nextClock (l ∷ ls) = cond (showsClock (parse (withoutEnd l))) (lineClock l) (nextClock ls)
-
--- a line that is a sampling reply with `ok`
-abbrev pub isSamplingOk : Parse → Bool
-isSamplingOk malformed = false
-isSamplingOk (message m) = isOk (text "sensor-sampling") m
-
--- what the lines `before` and l tell of sensor j holds at the end of the call that gave l
-abbrev pub HoldsUpTo : List ℕ → ℕ → List Call → List (List ℕ) → List ℕ → ℕ → Type 0
-HoldsUpTo bytes a h before l j = FileTells (sheetOf bytes) j (before ++ (l ∷ []))
-    (clockOf bytes (upToLine bytes a (length before) h)) (readingAt bytes j (upToLine bytes a (length before) h))
-
--- `cut`: what the lines up to l tell holds at the end of the call that gave l, wherever the file is cut behind the lines `seen`, if l leaves nothing open.
--- `whole`: and if the file is whole and ends with l.
--- `by-clock`: a line leaves nothing open if it is no sampling reply with `ok`, and the next line that shows a clock shows a later one than l and every line
--- before it.
-pub record CutTells : Type 0 where
-  pub cut : (bytes : List ℕ) (a : ℕ) (h : List Call) → connectedAtEnd bytes a h ≡ true → (before : List (List ℕ)) (l : List ℕ) (seen unseen : List (List ℕ))
-      → linesOf bytes a h ≡ before ++ (l ∷ (seen ++ unseen)) → leavesOpen (sheetOf bytes) l seen ≡ false → (j : ℕ) → j < sheetOf bytes .count
-      → HoldsUpTo bytes a h before l j
-  pub whole : (bytes : List ℕ) (a : ℕ) (h : List Call) → connectedAtEnd bytes a h ≡ true → (before : List (List ℕ)) (l : List ℕ)
-      → linesOf bytes a h ≡ before ++ (l ∷ []) → (j : ℕ) → j < sheetOf bytes .count → HoldsUpTo bytes a h before l j
-  pub by-clock : (sheet : Sheet) (before : List (List ℕ)) (l : List ℕ) (seen : List (List ℕ)) (t : ℕ) → isSamplingOk (parse (withoutEnd l)) ≡ false
-      → nextClock seen ≡ some t → Each (λ k. (u : ℕ) → lineClock k ≡ some u → u < t) (before ++ (l ∷ [])) → leavesOpen sheet l seen ≡ false
-
--- The end of a connection.
-
--- a `halt` or `restart` of client c that is answered `ok` gives an archive that is connected `#disconnect` as its last line; before it stand the lines up to
--- then, where the archive is connected and all of the above holds, and, if the archive asked itself, the one reply
-abbrev pub LastLine : Type 0
-LastLine = (bytes : List ℕ) (a c : ℕ) (asked lent : List ℕ) (h : List Call) → connectedAtEnd bytes a h ≡ true
-    → endsAll (Line c asked) (packetsOf bytes h (callOf (Line c asked) lent)) ≡ true
-    → (why : List ℕ) × ((replies : List (List ℕ)) × ((linesOf bytes a (callOf (Line c asked) lent ∷ h) ≡ linesOf bytes a h ++ (replies ++ (line (disconnect why) ∷ [])))
-    × (length replies ≡ cond (eqb c a) 1 0)))
-
--- The file's bytes.
-
--- a byte before the first of some lines
-abbrev pub startWith : ℕ → List (List ℕ) → List (List ℕ)
-startWith b [] = []
-startWith b (l ∷ ls) = (b ∷ l) ∷ ls
-
--- the whole lines in bytes: each byte 10 ends one, and belongs to it; bytes behind the last are none
-abbrev pub wholeLines : List ℕ → List (List ℕ)
-wholeLines [] = []
-wholeLines (b ∷ s) = cond (eqb b 10) ((10 ∷ []) ∷ wholeLines s) (startWith b (wholeLines s))
-
--- `whole-file`: the bytes of a file, its lines one after another, give its lines back.
--- `cut-off`: of the first n bytes the whole lines are a start of the file's lines.
-pub record FileCut : Type 0 where
-  pub whole-file : (bytes : List ℕ) (a : ℕ) (h : List Call) → wholeLines (joined (linesOf bytes a h)) ≡ linesOf bytes a h
-  pub cut-off : (bytes : List ℕ) (a : ℕ) (h : List Call) (n : ℕ)
-      → (rest : List (List ℕ)) × (linesOf bytes a h ≡ wholeLines (take n (joined (linesOf bytes a h))) ++ rest)
