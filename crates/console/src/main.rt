@@ -1,60 +1,89 @@
 //! The console of document 01: opens `sheet.lgu` in the folder that it is run in, connects client 0 as `console`, asks for log entries from info
 //! on, and prints its lines. An input line `@ n` ticks to n ms, `= s v` gives sensor s integer v, and every other line goes to the server.
 use input::Window;
-use libc::STDERR_FILENO;
-use libc::STDOUT_FILENO;
 use machine::State;
+use stream::Content;
 
-// The unit after some lines, and how many bytes these have.
+// The unit after a line, and whether all that the client is sent was printed.
+struct Turn {
+    state: State,
+    printed: bool,
+}
+
+// The unit after some lines, how many bytes these have, and whether all was printed.
 struct Lines {
     state: State,
     used: usize,
+    printed: bool,
 }
 
-// The first n bytes of out.
-fn print_part(out: &[u8], n: usize) {
-    io::write_all(STDOUT_FILENO, output::prefix(out, n));
-}
-
-// Client 0's lines among the first `written` bytes of a call's output.
-fn print_lines(out: &[u8], written: usize) {
+// Client 0's lines among the first `written` bytes of a call's output: whether they were printed.
+fn print_lines(out: &[u8], written: usize) -> bool {
     let mut lines = io::large_buffer();
     let n = terminal::put_shown(&mut lines, 0, 0, output::prefix(out, written));
-    print_part(&lines, n);
+    stream::print(output::prefix(&lines, n))
 }
 
 // An input line is carried out, and what the client is sent is printed.
-fn serve_line(state: State, line: &[u8], out: &mut [u8]) -> State {
+fn serve_line(state: State, line: &[u8], out: &mut [u8]) -> Turn {
     let answer = terminal::perform(state, line, out);
-    print_lines(out, answer.written);
-    answer.state
+    let printed = print_lines(out, answer.written);
+    let next = answer.state;
+    Turn {
+        state: next,
+        printed: printed,
+    }
 }
 
-// The lines that end in `s` are carried out.
+// The lines that end in `s` are carried out, up to one whose answer cannot be printed.
 fn serve_lines(first: State, s: &[u8], out: &mut [u8]) -> Lines {
     let mut state = first;
     let mut from: usize = 0;
     let mut end = line::len_before(s, 10);
     while end < s.len() {
-        state = serve_line(state, &s[from..end], out);
+        let turn = serve_line(state, &s[from..end], out);
+        state = turn.state;
         from = end + 1;
+        if !turn.printed {
+            return Lines {
+                state: state,
+                used: from,
+                printed: false,
+            };
+        }
         end = from + line::len_before(&s[from..], 10);
     }
     Lines {
         state: state,
         used: from,
+        printed: true,
+    }
+}
+
+// A last line that has no end.
+fn serve_last(state: State, line: &[u8], out: &mut [u8]) {
+    if line.len() == 0 {
+        return;
+    }
+    let turn = serve_line(state, line, out);
+    if !turn.printed {
+        stream::say_unwritten();
     }
 }
 
 // To the end of the input, in at most 2^64 reads: an input need not end, and this does. Of a line that fills the buffer the first 2,049 bytes are
-// kept: it is too long whatever follows.
+// kept: it is too long whatever follows. Where a read fails, what came of a line is not carried out.
 fn serve(first: State, buf: &mut [u8], out: &mut [u8]) {
     let mut state = first;
     let mut more = stream::refill(buf, Window { from: 0, to: 0 }, 2049);
     let mut turns = u64::MAX;
-    while (more.from < more.to) & (0 < turns) {
-        let end = more.to;
+    while (more.window.from < more.window.to) & (0 < turns) {
+        let end = more.window.to;
         let lines = serve_lines(state, &buf[..end], out);
+        if !lines.printed {
+            stream::say_unwritten();
+            return;
+        }
         state = lines.state;
         more = stream::refill(
             buf,
@@ -66,29 +95,32 @@ fn serve(first: State, buf: &mut [u8], out: &mut [u8]) {
         );
         turns -= 1;
     }
-    let to = more.to;
-    if 0 < to {
-        serve_line(state, &buf[..to], out);
+    if more.failed {
+        stream::say_unread();
+        return;
     }
-}
-
-// A sentence on standard error.
-fn complain(why: &[u8]) {
-    io::write_all(STDERR_FILENO, why);
+    let to = more.window.to;
+    serve_last(state, &buf[..to], out);
 }
 
 // Client 0 is connected to the unit of a sheet, asks for info, and is served.
 fn run(sheet: &[u8]) {
     let opened = device::open(sheet);
     if opened.number != 0 {
-        complain(b"sheet.lgu is not a sheet.\n");
+        stream::complain(b"sheet.lgu is not a sheet.\n");
         return;
     }
     let mut out = io::large_buffer();
     let connected = terminal::connect(opened.state, &mut out);
-    print_lines(&out, connected.written);
+    if !print_lines(&out, connected.written) {
+        stream::say_unwritten();
+        return;
+    }
     let asked = terminal::ask_info(connected.state, &mut out);
-    print_lines(&out, asked.written);
+    if !print_lines(&out, asked.written) {
+        stream::say_unwritten();
+        return;
+    }
     let mut buf = io::buffer();
     serve(asked.state, &mut buf, &mut out);
 }
@@ -96,11 +128,15 @@ fn run(sheet: &[u8]) {
 fn main() {
     let fd = os::open_read(b"sheet.lgu");
     if fd < 0 {
-        complain(b"sheet.lgu cannot be opened.\n");
+        stream::complain(b"sheet.lgu cannot be opened.\n");
         return;
     }
     let mut bytes = io::large_buffer();
-    let n = io::read_full(fd, &mut bytes);
+    let content = stream::read_all(fd, &mut bytes);
     libc::close(fd);
-    run(&bytes[..n]);
+    match content {
+        Content::Whole(n) => run(&bytes[..n]),
+        Content::TooLong => stream::complain(b"sheet.lgu is not a sheet.\n"),
+        Content::Unread => stream::complain(b"sheet.lgu cannot be read.\n"),
+    }
 }

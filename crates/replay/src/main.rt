@@ -1,35 +1,22 @@
 //! Runs a script of calls: reads it from standard input, a call a line, and prints the answer to each call. The format is that of `script`.
 use input::Window;
-use libc::STDOUT_FILENO;
 use machine::State;
 
-// The device after some lines, and how many bytes these have.
+// The device after some lines, how many bytes these have, and whether all answers were printed.
 struct Lines {
     state: State,
     used: usize,
+    printed: bool,
 }
 
-// The device after a line, and where the next answer goes.
+// The device after a line, where the next answer goes, and whether what was to be printed was.
 struct Turn {
     state: State,
     at: usize,
+    printed: bool,
 }
 
-// The first n bytes of out.
-fn print_part(out: &[u8], n: usize) {
-    io::write_all(STDOUT_FILENO, output::prefix(out, n));
-}
-
-// Answers are printed together, some 64 KB at a time: the place of the next one.
-fn printed(answers: &[u8], at: usize) -> usize {
-    if at < 65536 {
-        return at;
-    }
-    print_part(answers, at);
-    0
-}
-
-// A line's call is made, and its answer put at `at`. An answer has 131,077 bytes at most.
+// A line's call is made, and its answer put at `at`. An answer has 131,077 bytes at most. Answers are printed together, some 64 KB at a time.
 fn answer_line(state: State, line: &[u8], out: &mut [u8], answers: &mut [u8], at: usize) -> Turn {
     let done = script::perform(state, line, out);
     let answer = done.answer;
@@ -37,13 +24,21 @@ fn answer_line(state: State, line: &[u8], out: &mut [u8], answers: &mut [u8], at
     let bytes = output::prefix(out, answer.written);
     let end = script::put_reply(answers, at, command, answer.number, bytes);
     let next = answer.state;
+    if end < 65536 {
+        return Turn {
+            state: next,
+            at: end,
+            printed: true,
+        };
+    }
     Turn {
         state: next,
-        at: printed(answers, end),
+        at: 0,
+        printed: stream::print(output::prefix(answers, end)),
     }
 }
 
-// The lines that end in `s` are answered.
+// The lines that end in `s` are answered, up to one whose answer cannot be printed.
 fn answer_lines(first: State, s: &[u8], out: &mut [u8], answers: &mut [u8]) -> Lines {
     let mut state = first;
     let mut at: usize = 0;
@@ -54,32 +49,47 @@ fn answer_lines(first: State, s: &[u8], out: &mut [u8], answers: &mut [u8]) -> L
         state = turn.state;
         at = turn.at;
         from = end + 1;
+        if !turn.printed {
+            return Lines {
+                state: state,
+                used: from,
+                printed: false,
+            };
+        }
         end = from + line::len_before(&s[from..], 10);
     }
-    print_part(answers, at);
     Lines {
         state: state,
         used: from,
+        printed: stream::print(output::prefix(answers, at)),
     }
 }
 
 // A last line that has no end.
 fn answer_last(state: State, s: &[u8], out: &mut [u8], answers: &mut [u8]) {
-    if 0 < s.len() {
-        let turn = answer_line(state, s, out, answers, 0);
-        print_part(answers, turn.at);
+    if s.len() == 0 {
+        return;
+    }
+    let turn = answer_line(state, s, out, answers, 0);
+    let rest = stream::print(output::prefix(answers, turn.at));
+    if !(turn.printed & rest) {
+        stream::say_unwritten();
     }
 }
 
 // To the end of the input, in at most 2^64 reads: an input need not end, and this does. Of a line that fills the buffer the first 65,537 bytes are
-// kept: it is too long whatever follows.
+// kept: it is too long whatever follows. Where a read fails, what came of a line is no call.
 fn replay(first: State, buf: &mut [u8], out: &mut [u8], answers: &mut [u8]) {
     let mut state = first;
     let mut more = stream::refill(buf, Window { from: 0, to: 0 }, 65537);
     let mut turns = u64::MAX;
-    while (more.from < more.to) & (0 < turns) {
-        let end = more.to;
+    while (more.window.from < more.window.to) & (0 < turns) {
+        let end = more.window.to;
         let lines = answer_lines(state, &buf[..end], out, answers);
+        if !lines.printed {
+            stream::say_unwritten();
+            return;
+        }
         state = lines.state;
         more = stream::refill(
             buf,
@@ -91,7 +101,11 @@ fn replay(first: State, buf: &mut [u8], out: &mut [u8], answers: &mut [u8]) {
         );
         turns -= 1;
     }
-    let to = more.to;
+    if more.failed {
+        stream::say_unread();
+        return;
+    }
+    let to = more.window.to;
     answer_last(state, &buf[..to], out, answers);
 }
 

@@ -10,7 +10,7 @@ use lib.Seq.{take-at}
 use Rattle.output.specs.Output.{laid}
 use Rattle.input.specs.declared.Window.{Window}
 use Rattle.input.specs.Window.{pending, kept, first}
-use Rattle.stream.specs.Filled.{Filled}
+use Rattle.stream.specs.Filled.{Behind, Filled}
 
 kept-fits : (buf : List ℕ) (w : Window) (most : ℕ) → length (kept buf w most) ≤ length buf
 unfolding kept
@@ -37,6 +37,5 @@ module _ (buf moved : List ℕ) (w : Window) (most : ℕ) (rest : Window) (count
   in-front : take (rest .to) moved ≡ kept buf w most
   in-front = rw bytes (take-at (kept buf w most) _ (rest .to) (sym ends))
 
-  pub filled : (after : List ℕ) (to : ℕ) → (rest .to ≤ to) × (to ≤ length after) × (length after ≡ length moved) × (take (rest .to) after ≡ take (rest .to) moved)
-      → Filled buf w most after record { from = rest .to; to = to }
-  filled after to h = record { from = ends; to = h .1; forward = h .0; size = h .2 ∙ as-long; front = h .3 ∙ in-front }
+  pub filled : (after : List ℕ) (to : ℕ) (failed : Bool) → Behind moved (rest .to) after to failed → Filled buf w most after record { from = rest .to; to = to }
+  filled after to failed h = record { from = ends; to = h .fits; forward = h .forward; size = h .size ∙ as-long; front = h .front ∙ in-front }

@@ -1,58 +1,40 @@
--- What stands before the part that is lent stays as it was.
-use Prim.Native.Nat.{_-_}
-use lib.ListN.{length}
-use borrow.Author.Needs.{needs}
+-- What stands before the part that is lent stays as it was, and the turns are counted down.
+use Prim.Native.Nat.{_<_, _-_}
+use native.Mathlib.Omega.{arith}
+use mathlib.Core.Path.{_≡_, _∙_, sym, subst}
+use lib.Dec.{T}
 use borrow.Rule.Slice.PartMut.{take-put}
+use lib.ListN.{length, take}
+use borrow.Author.Needs.{needs}
+use Rattle.stream.proofs.TurnLaws.{turn-left}
 use Rattle.stream.proofs.read_behind.Statement.{statement}
 use Rattle.stream.proofs.read_behind.Tie as tie
 
-sub-read : tie.Need-sub-read
-sub-read c = search needs
+abbrev Inv-loop : tie.InvT-loop
+Inv-loop fd buf₀ to got₀ repeat₀ turns₀ buf got repeat turns = (length buf ≡ length buf₀) × (take to buf ≡ take to buf₀)
 
-part-read-start : tie.Need-part-read-start
-part-read-start c = search needs
+abbrev μ-loop : tie.MeasureT-loop
+μ-loop fd buf₀ to got₀ repeat₀ turns₀ buf got repeat turns = turns
 
-part-read-end : tie.Need-part-read-end
-part-read-end c = search needs
+-- a turn is left
+some : (c : tie.In-loop Inv-loop μ-loop) → 0 < c .before .loop .turns
+some c = let turn = c .before .loop in turn-left (turn .repeat) (turn .turns) (c .loop-test .taken)
 
-read-requires : tie.Need-read-requires
-read-requires c κs = search needs
+sub-turns : tie.Need-sub-turns Inv-loop μ-loop
+sub-turns c = omega (arith, some (c .before .before .before .before .before))
 
-sub-count : tie.Need-sub-count
-sub-count c = search needs
+loop-less : tie.Need-loop-less Inv-loop μ-loop
+loop-less c = omega (arith, some (c .before .before .before .before .before))
 
-part-count-start : tie.Need-part-count-start
-part-count-start c = search needs
+loop-again : tie.Need-loop-again Inv-loop μ-loop
+loop-again c =
+    let turn = c .before .before .before .before .before .before in
+    let start = turn .before .before in
+    (search needs, take-put (start .args .to) (length (turn .loop .buf) - start .args .to) (turn .loop .buf) (c .before .before .before .read .last .1 .0) (search needs) ∙ turn .loop .inv .1)
 
-part-count-end : tie.Need-part-count-end
-part-count-end c = search needs
-
-count-requires : tie.Need-count-requires
-count-requires c κs = search needs
-
-add-result : tie.Need-add-result
-add-result c = search needs
-
-same-length : tie.Need-same-length
-same-length c = search needs
-
-returns : tie.Need-returns
-returns c =
-    let b = c .before .before .before .before .before .before .before .before in
-    (search needs, search needs, search needs, take-put (b .args .to) (length (b .args .buf .now) - b .args .to) (b .args .buf .now) (c .before .before .before .before .before .read .last .1 .0) (b .pre))
+returns-2 : tie.Need-returns-2 Inv-loop μ-loop
+returns-2 c = record { forward = search needs; fits = search needs; size = search needs; front = search needs; none = λ e. absurd (subst T (sym e) tt) }
 
 pub read-behind-spec : {M : Type 1} → statement M
 read-behind-spec =
-    tie.close
-    (tie.spec
-    sub-read
-    part-read-start
-    part-read-end
-    read-requires
-    sub-count
-    part-count-start
-    part-count-end
-    count-requires
-    add-result
-    same-length
-    returns)
+    tie.close (tie.spec Inv-loop μ-loop (λ c. search needs) (λ c. search needs) (λ c. search needs) (λ c. search needs) (λ c κs. search needs) (λ c κs. search needs) sub-turns loop-less loop-again (λ c. search needs) (λ c. search needs) (λ c. search needs) (λ c. search needs) (λ c. search needs) (λ c κs. search needs) (λ c. search needs) (λ c. search needs) returns-2)
