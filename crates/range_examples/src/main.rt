@@ -2,8 +2,6 @@
 //! it: `+` and what follows for good, `?` for this line alone; behind a line `-` it is the blank state. For each line it prints the line, and 1
 //! where the state is then in range, else 0.
 //! Behind the field's name stand its place (sensor, client, subscription), its index in an array, and its value.
-use libc::STDIN_FILENO;
-use libc::STDOUT_FILENO;
 use line::Copied;
 use machine::Client;
 use machine::Sensor;
@@ -307,50 +305,73 @@ fn with_field(s: State, line: &[u8], n: Numbers) -> State {
     next
 }
 
-fn print_range(line: &[u8], s: State) {
-    io::write_all(STDOUT_FILENO, line);
+// Whether all was printed.
+fn print_range(line: &[u8], s: State) -> bool {
     if sheet::in_range(s) {
-        io::write_all(STDOUT_FILENO, b" 1\n");
-    } else {
-        io::write_all(STDOUT_FILENO, b" 0\n");
+        return stream::print(line) && stream::print(b" 1\n");
     }
+    stream::print(line) && stream::print(b" 0\n")
+}
+
+// The state after a line, and whether all was printed.
+struct Turn {
+    state: State,
+    printed: bool,
 }
 
 // The state after a line: the changed one where the line begins with `+`, the blank one where it begins with `-`.
-fn show(line: &[u8], s: State, blank: State) -> State {
+fn show(line: &[u8], s: State, blank: State) -> Turn {
     let next = with_field(s, line, numbers_of(line));
     if line.len() == 0 {
-        return s;
+        return Turn {
+            state: s,
+            printed: true,
+        };
     }
     if line[0] == b'-' {
-        print_range(line, blank);
-        return blank;
+        return Turn {
+            state: blank,
+            printed: print_range(line, blank),
+        };
     }
-    print_range(line, next);
+    let printed = print_range(line, next);
     if line[0] == b'+' {
-        return next;
+        return Turn {
+            state: next,
+            printed: printed,
+        };
     }
-    s
+    Turn {
+        state: s,
+        printed: printed,
+    }
 }
 
-fn show_lines(s: &[u8], first: State, blank: State) {
+// Whether all was printed.
+fn show_lines(s: &[u8], first: State, blank: State) -> bool {
     let mut state = first;
     let mut at = 0;
     while at < s.len() {
         let e = at + line::len_before(&s[at..], 10);
-        let next = show(&s[at..e], state, blank);
-        state = next;
+        let turn = show(&s[at..e], state, blank);
+        if !turn.printed {
+            return false;
+        }
+        state = turn.state;
         at = e + 1;
     }
+    true
 }
 
 fn main() {
     let mut input = io::large_buffer();
-    let n = io::read_full(STDIN_FILENO, &mut input);
+    let n = stream::read_input(&mut input);
     let broken = sheet::open(b"");
     let opened = sheet::open(
         b"LGU\0\x01\x07lgu-1.0\x02b7\x05\x04load\x09Car load.\x02kg\x01\x04\0\0\0\0\0\0\x03\xe8\xff\xff\xff\xfb\0\0\x04\xb0\x05speed\0\x03m/s\x02\x02\xff\xff\xf8\0\0\0\x08\0\x04door\0\0\x04\x03\x04shut\x04open\x06moving\x04call\0\0\x03\x05start\0\0\x05",
     );
-    print_range(b"opened", opened.state);
-    show_lines(&input[..n], opened.state, broken.state);
+    if !(print_range(b"opened", opened.state)
+        && show_lines(&input[..n], opened.state, broken.state)) {
+        stream::say_unwritten();
+    }
 }

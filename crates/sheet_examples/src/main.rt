@@ -1,20 +1,12 @@
 //! Sheets through opening. Standard input holds records: a byte for the length of a label, two for the length of a sheet, the label and the
-//! sheet. For each it prints the label and the number, and for a good sheet what the state holds of it.
+//! sheet. For each it prints the label and the number, and for a good sheet what the state holds of it. A function that prints answers whether all
+//! was taken.
 ghost use Prim.Native.Nat.{_<_};
-use libc::STDIN_FILENO;
-use libc::STDOUT_FILENO;
 use machine::Choice;
 use machine::Sensor;
 use machine::State;
 use machine::Stored;
 use value::Limits;
-
-// The first n bytes of out.
-fn print_part(out: &[u8], n: usize) {
-    if n <= out.len() {
-        io::write_all(STDOUT_FILENO, &out[..n]);
-    }
-}
 
 // ` | `, and the first n bytes of a text.
 fn put_column(out: &mut [u8], at: usize, text: &[u8], n: u8) -> usize {
@@ -86,7 +78,7 @@ fn put_texts(out: &mut [u8], at: usize, sensor: Sensor) -> usize {
     put_column(out, p, &units, sensor.units_len)
 }
 
-fn print_sensor(sensor: Sensor, r: Stored) {
+fn print_sensor(sensor: Sensor, r: Stored) -> bool {
     let mut out = [0u8; 1024];
     let p = put_texts(&mut out, 0, sensor);
     let p = output::put_bytes(&mut out, p, b" | ");
@@ -95,24 +87,26 @@ fn print_sensor(sensor: Sensor, r: Stored) {
     let p = put_options(&mut out, p, sensor);
     let p = put_reading(&mut out, p, sensor, r);
     let p = output::put_byte(&mut out, p, 10);
-    print_part(&out, p);
+    stream::print(output::prefix(&out, p))
 }
 
-fn print_sensors(s: State) {
+fn print_sensors(s: State) -> bool {
     let sheet = s.sheet;
+    let mut printed = true;
     let mut j: usize = 0;
     while j < 32 {
         if j < sheet.count as usize {
             let sensor = sheet.sensors[j];
             let r = s.readings[j];
-            print_sensor(sensor, r);
+            printed = printed && print_sensor(sensor, r);
         }
         j += 1;
     }
+    printed
 }
 
 // The texts of the sheet and the number of its sensors, the clock and the log level.
-fn print_state(s: State) {
+fn print_state(s: State) -> bool {
     let mut out = [0u8; 256];
     let sheet = s.sheet;
     let api = sheet.api;
@@ -125,20 +119,18 @@ fn print_state(s: State) {
     let p = output::put_time(&mut out, p, s.clock);
     let p = output::put_byte(&mut out, p, b' ');
     let p = output::put_decimal(&mut out, p, s.level as u64);
-    print_part(&out, p);
+    stream::print(output::prefix(&out, p))
 }
 
-fn show(label: &[u8], bytes: &[u8]) {
+fn show(label: &[u8], bytes: &[u8]) -> bool {
     let r = sheet::open(bytes);
     let s = r.state;
-    io::write_all(STDOUT_FILENO, label);
-    io::write_all(STDOUT_FILENO, b": ");
-    io::print_decimal(STDOUT_FILENO, r.number as u64);
-    if r.number == 0 {
-        print_state(s);
-    }
-    io::write_all(STDOUT_FILENO, b"\n");
-    print_sensors(s);
+    stream::print(label)
+        && stream::print(b": ")
+        && stream::print_decimal(r.number as u64)
+        && (r.number != 0 || print_state(s))
+        && stream::print(b"\n")
+        && print_sensors(s)
 }
 
 // A length of two bytes.
@@ -148,22 +140,28 @@ fn length(high: u8, low: u8) -> usize
     high as usize * 256 + low as usize
 }
 
-fn show_records(s: &[u8]) {
+// Whether all was printed.
+fn show_records(s: &[u8]) -> bool {
     let mut at = 0;
     while at + 3 <= s.len() {
         let label = at + 3;
         let bytes = label + length(0, s[at]);
         let end = bytes + length(s[at + 1], s[at + 2]);
         if s.len() < end {
-            return;
+            return true;
         }
-        show(&s[label..bytes], &s[bytes..end]);
+        if !show(&s[label..bytes], &s[bytes..end]) {
+            return false;
+        }
         at = end;
     }
+    true
 }
 
 fn main() {
     let mut input = io::large_buffer();
-    let n = io::read_full(STDIN_FILENO, &mut input);
-    show_records(&input[..n]);
+    let n = stream::read_input(&mut input);
+    if !show_records(&input[..n]) {
+        stream::say_unwritten();
+    }
 }

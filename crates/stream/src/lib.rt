@@ -80,6 +80,13 @@ pub fn print(bytes: &[u8]) -> bool
     write_all(STDOUT_FILENO, bytes) == bytes.len()
 }
 
+// A number goes to standard output, in decimal: whether all its digits were taken.
+pub fn print_decimal(n: u64) -> bool {
+    let mut digits = [0u8; 20];
+    let k = io::decimal(n, &mut digits);
+    print(&digits[..k])
+}
+
 // A sentence goes to standard error.
 pub fn complain(why: &[u8]) {
     write_all(STDERR_FILENO, why);

@@ -1,43 +1,32 @@
 //! Texts through the readers of parameters, and doubles through the reading of floats. For each line of standard input it prints what the
 //! line is as an integer difference, a float difference, a period and a shortest period (`19` where it is none), each written again; and of
-//! a line of 16 hex digits, the text of the double with these bits as a reading of a float sensor (`10` where it is unfit).
+//! a line of 16 hex digits, the text of the double with these bits as a reading of a float sensor (`10` where it is unfit). A function that prints
+//! answers whether all was taken.
 ghost use mathlib.Core.Path.{_≡_};
-use libc::STDIN_FILENO;
-use libc::STDOUT_FILENO;
 use value::Parameter;
 use value::Reading;
 use value::Sampled;
 
-// The first n bytes of out.
-fn print_part(out: &[u8], n: usize) {
-    if n <= out.len() {
-        io::write_all(STDOUT_FILENO, &out[..n]);
-    }
-}
-
-fn print_difference(p: Parameter, whole: bool) {
+fn print_difference(p: Parameter, whole: bool) -> bool {
     let mut out = [0u8; 32];
     let Parameter::Is(d) = p else {
-        io::write_all(STDOUT_FILENO, b"19");
-        return;
+        return stream::print(b"19");
     };
     if whole {
         let n = output::put_whole_difference(&mut out, 0, d);
-        print_part(&out, n);
-    } else {
-        let n = output::put_difference(&mut out, 0, d);
-        print_part(&out, n);
+        return stream::print(output::prefix(&out, n));
     }
+    let n = output::put_difference(&mut out, 0, d);
+    stream::print(output::prefix(&out, n))
 }
 
-fn print_period(p: Parameter) {
+fn print_period(p: Parameter) -> bool {
     let mut out = [0u8; 32];
     let Parameter::Is(ms) = p else {
-        io::write_all(STDOUT_FILENO, b"19");
-        return;
+        return stream::print(b"19");
     };
     let n = output::put_time(&mut out, 0, ms);
-    print_part(&out, n);
+    stream::print(output::prefix(&out, n))
 }
 
 // The double with these bits.
@@ -48,15 +37,14 @@ fn double_of(bits: u64) -> f64 {
     f64::from_bits(bits)
 }
 
-fn print_double(bits: u64) {
+fn print_double(bits: u64) -> bool {
     let mut out = [0u8; 32];
     let reading = Reading::Float(double_of(bits));
     let Sampled::As(s) = value::sample_of(2, 0, reading) else {
-        io::write_all(STDOUT_FILENO, b"10");
-        return;
+        return stream::print(b"10");
     };
     let n = value::put_value(&mut out, 0, 2, b"", 0, s.number);
-    print_part(&out, n);
+    stream::print(output::prefix(&out, n))
 }
 
 // The number of a hex digit, 16 for any other byte.
@@ -104,32 +92,43 @@ fn hex_value(s: &[u8]) -> u64 {
     n
 }
 
-fn show(text: &[u8]) {
-    print_difference(value::read_integer_difference(text), true);
-    io::write_all(STDOUT_FILENO, b" ");
-    print_difference(value::read_float_difference(text), false);
-    io::write_all(STDOUT_FILENO, b" ");
-    print_period(value::read_period(text));
-    io::write_all(STDOUT_FILENO, b" ");
-    print_period(value::read_shortest(text));
+// The double of a line of hex digits, behind a space.
+fn show_double(text: &[u8]) -> bool {
     if is_hex(text) {
-        io::write_all(STDOUT_FILENO, b" ");
-        print_double(hex_value(text));
+        return stream::print(b" ") && print_double(hex_value(text));
     }
-    io::write_all(STDOUT_FILENO, b"\n");
+    true
 }
 
-fn show_lines(s: &[u8]) {
+fn show(text: &[u8]) -> bool {
+    print_difference(value::read_integer_difference(text), true)
+        && stream::print(b" ")
+        && print_difference(value::read_float_difference(text), false)
+        && stream::print(b" ")
+        && print_period(value::read_period(text))
+        && stream::print(b" ")
+        && print_period(value::read_shortest(text))
+        && show_double(text)
+        && stream::print(b"\n")
+}
+
+// Whether all was printed.
+fn show_lines(s: &[u8]) -> bool {
     let mut at = 0;
     while at < s.len() {
         let e = at + line::len_before(&s[at..], 10);
-        show(&s[at..e]);
+        if !show(&s[at..e]) {
+            return false;
+        }
         at = e + 1;
     }
+    true
 }
 
 fn main() {
     let mut input = io::large_buffer();
-    let n = io::read_full(STDIN_FILENO, &mut input);
-    show_lines(&input[..n]);
+    let n = stream::read_input(&mut input);
+    if !show_lines(&input[..n]) {
+        stream::say_unwritten();
+    }
 }
