@@ -7,7 +7,8 @@ use lib.ListN.{length, take}
 use Rattle.input.specs.declared.Window.{Window}
 use Rattle.input.specs.Window.{kept}
 
--- behind the first `from` bytes, which stay, there are those that came, up to `to`; none came where the read failed; the buffer is as long as it was
+-- behind the first `from` bytes, which stay, there are those that came, up to `to`; none came where the read failed; the buffer is as long as
+-- it was
 pub record Behind (before : List ℕ) (from : ℕ) (after : List ℕ) (to : ℕ) (failed : Bool) : Type 0 where
   pub forward : from ≤ to
   pub fits : to ≤ length after

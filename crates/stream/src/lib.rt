@@ -1,5 +1,5 @@
-//! What a program reads and writes, by descriptors. A call that was interrupted or whose descriptor is not ready is made again; a call that fails is
-//! told from the end of the input, and ends the work.
+//! What a program reads and writes, by descriptors. A call that was interrupted or whose descriptor is not ready is made again; a call that fails
+//! is told from the end of the input, and ends the work.
 use input::Window;
 use libc::STDERR_FILENO;
 use libc::STDIN_FILENO;
@@ -53,8 +53,8 @@ fn again(got: isize) -> bool
     repeat
 }
 
-// Writes the bytes in their order, each write from where the last one stopped: how many were taken, which is all of them, or those before the first
-// write that failed. In at most 2^64 writes: a descriptor need not become ready, and this ends.
+// Writes the bytes in their order, each write from where the last one stopped: how many were taken, which is all of them, or those before the
+// first write that failed. In at most 2^64 writes: a descriptor need not become ready, and this ends.
 pub fn write_all(fd: i32, bytes: &[u8]) -> usize
     ensures { λ r. ⌜ r ≤ length (now (bytes .entry)) ⌝ }
 {
@@ -102,7 +102,7 @@ pub fn say_unread() {
     complain(b"Standard input cannot be read.\n");
 }
 
-// A read behind the first `to` bytes of the buffer.
+// A read behind the first `to` bytes of the buffer, in at most 2^64 tries. The end of the input, and a buffer that is full, bring no bytes.
 fn read_behind(fd: i32, buf: &mut [u8], to: usize) -> Held
     requires { ⌜ to ≤ length (now buf) ⌝ }
     ensures { λ r. ⌜ Behind (now (buf .entry)) to (now (buf .exit)) (r .to) (r .failed) ⌝ }
@@ -129,7 +129,7 @@ fn read_behind(fd: i32, buf: &mut [u8], to: usize) -> Held
 }
 
 // Room is made for more behind the pending bytes, and more is read: the bytes that came are those of the window that is answered, and none where
-// the input has ended or the read failed. Where the pending bytes fill the buffer, the first `most` of them are kept.
+// the input has ended, the read failed or there is no room. Where the pending bytes fill the buffer, the first `most` of them are kept.
 pub fn refill(buf: &mut [u8], w: Window, most: usize) -> Refilled
     ensures { λ r. ⌜ Filled (now (buf .entry)) w most (now (buf .exit)) (r .window) ⌝ }
     ensures { λ r. ⌜ (r .failed ≡ true → r .window .to ≡ r .window .from) ⌝ }

@@ -1,5 +1,5 @@
-//! What a stored run can show of `stream`, a line for each: writes that are taken and writes that fail, files that end, one that the buffer is too short
-//! for, and a read that fails. Then standard input, through a buffer of 16 bytes, and that it ended.
+//! What a stored run can show of `stream`, a line for each: writes that fail and one of nothing, files that end, files that the buffer is too short
+//! for, and reads that fail. Then standard input, through a buffer of 16 bytes, and that it ended.
 use input::Window;
 use stream::Content;
 
