@@ -60,20 +60,18 @@ fn serve_lines(first: State, s: &[u8], out: &mut [u8]) -> Lines {
     }
 }
 
-// A last line that has no end.
-fn serve_last(state: State, line: &[u8], out: &mut [u8]) {
+// A last line that has no end: whether all was printed.
+fn serve_last(state: State, line: &[u8], out: &mut [u8]) -> bool {
     if line.len() == 0 {
-        return;
+        return true;
     }
     let turn = serve_line(state, line, out);
-    if !turn.printed {
-        stream::say_unwritten();
-    }
+    turn.printed
 }
 
 // To the end of the input, in at most 2^64 reads: an input need not end, and this does. Of a line that fills the buffer the first 2,049 bytes are
-// kept: it is too long whatever follows. Where a read fails, what came of a line is not carried out.
-fn serve(first: State, buf: &mut [u8], out: &mut [u8]) {
+// kept: it is too long whatever follows. Where a read fails, what came of a line is not carried out. Whether all was printed.
+fn serve(first: State, buf: &mut [u8], out: &mut [u8]) -> bool {
     let mut state = first;
     let mut more = stream::refill(buf, Window { from: 0, to: 0 }, 2049);
     let mut turns = u64::MAX;
@@ -81,8 +79,7 @@ fn serve(first: State, buf: &mut [u8], out: &mut [u8]) {
         let end = more.window.to;
         let lines = serve_lines(state, &buf[..end], out);
         if !lines.printed {
-            stream::say_unwritten();
-            return;
+            return false;
         }
         state = lines.state;
         more = stream::refill(
@@ -97,32 +94,37 @@ fn serve(first: State, buf: &mut [u8], out: &mut [u8]) {
     }
     if more.failed {
         stream::say_unread();
-        return;
+        return true;
     }
     let to = more.window.to;
-    serve_last(state, &buf[..to], out);
+    serve_last(state, &buf[..to], out)
 }
 
-// Client 0 is connected to the unit of a sheet, asks for info, and is served.
-fn run(sheet: &[u8]) {
+// Client 0 is connected to the unit, asks for info, and is served: whether all was printed.
+fn run(unit: State) -> bool {
+    let mut out = io::large_buffer();
+    let connected = terminal::connect(unit, &mut out);
+    if !print_lines(&out, connected.written) {
+        return false;
+    }
+    let asked = terminal::ask_info(connected.state, &mut out);
+    if !print_lines(&out, asked.written) {
+        return false;
+    }
+    let mut buf = io::buffer();
+    serve(asked.state, &mut buf, &mut out)
+}
+
+// The unit of a sheet's bytes.
+fn start(sheet: &[u8]) {
     let opened = device::open(sheet);
     if opened.number != 0 {
         stream::complain(b"sheet.lgu is not a sheet.\n");
         return;
     }
-    let mut out = io::large_buffer();
-    let connected = terminal::connect(opened.state, &mut out);
-    if !print_lines(&out, connected.written) {
+    if !(run(opened.state) && stream::close_output()) {
         stream::say_unwritten();
-        return;
     }
-    let asked = terminal::ask_info(connected.state, &mut out);
-    if !print_lines(&out, asked.written) {
-        stream::say_unwritten();
-        return;
-    }
-    let mut buf = io::buffer();
-    serve(asked.state, &mut buf, &mut out);
 }
 
 fn main() {
@@ -135,7 +137,7 @@ fn main() {
     let content = stream::read_all(fd, &mut bytes);
     libc::close(fd);
     match content {
-        Content::Whole(n) => run(&bytes[..n]),
+        Content::Whole(n) => start(&bytes[..n]),
         Content::TooLong => stream::complain(b"sheet.lgu is not a sheet.\n"),
         Content::Unread => stream::complain(b"sheet.lgu cannot be read.\n"),
     }

@@ -65,21 +65,18 @@ fn answer_lines(first: State, s: &[u8], out: &mut [u8], answers: &mut [u8]) -> L
     }
 }
 
-// A last line that has no end.
-fn answer_last(state: State, s: &[u8], out: &mut [u8], answers: &mut [u8]) {
+// A last line that has no end: whether its answer was printed.
+fn answer_last(state: State, s: &[u8], out: &mut [u8], answers: &mut [u8]) -> bool {
     if s.len() == 0 {
-        return;
+        return true;
     }
     let turn = answer_line(state, s, out, answers, 0);
-    let rest = stream::print(output::prefix(answers, turn.at));
-    if !(turn.printed & rest) {
-        stream::say_unwritten();
-    }
+    turn.printed && stream::print(output::prefix(answers, turn.at))
 }
 
 // To the end of the input, in at most 2^64 reads: an input need not end, and this does. Of a line that fills the buffer the first 65,537 bytes are
-// kept: it is too long whatever follows. Where a read fails, what came of a line is no call.
-fn replay(first: State, buf: &mut [u8], out: &mut [u8], answers: &mut [u8]) {
+// kept: it is too long whatever follows. Where a read fails, what came of a line is no call. Whether all answers were printed.
+fn replay(first: State, buf: &mut [u8], out: &mut [u8], answers: &mut [u8]) -> bool {
     let mut state = first;
     let mut more = stream::refill(buf, Window { from: 0, to: 0 }, 65537);
     let mut turns = u64::MAX;
@@ -87,8 +84,7 @@ fn replay(first: State, buf: &mut [u8], out: &mut [u8], answers: &mut [u8]) {
         let end = more.window.to;
         let lines = answer_lines(state, &buf[..end], out, answers);
         if !lines.printed {
-            stream::say_unwritten();
-            return;
+            return false;
         }
         state = lines.state;
         more = stream::refill(
@@ -103,10 +99,10 @@ fn replay(first: State, buf: &mut [u8], out: &mut [u8], answers: &mut [u8]) {
     }
     if more.failed {
         stream::say_unread();
-        return;
+        return true;
     }
     let to = more.window.to;
-    answer_last(state, &buf[..to], out, answers);
+    answer_last(state, &buf[..to], out, answers)
 }
 
 fn main() {
@@ -114,5 +110,7 @@ fn main() {
     let mut buf = [0u8; 131072];
     let mut out = [0u8; 65536];
     let mut answers = [0u8; 262144];
-    replay(blank.state, &mut buf, &mut out, &mut answers);
+    if !(replay(blank.state, &mut buf, &mut out, &mut answers) && stream::close_output()) {
+        stream::say_unwritten();
+    }
 }

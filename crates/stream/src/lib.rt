@@ -87,6 +87,11 @@ pub fn print_decimal(n: u64) -> bool {
     print(&digits[..k])
 }
 
+// Standard output is closed behind its last byte, since some disks say only then that they did not take all: whether it was.
+pub fn close_output() -> bool {
+    libc::close(STDOUT_FILENO) == 0
+}
+
 // A sentence goes to standard error.
 pub fn complain(why: &[u8]) {
     write_all(STDERR_FILENO, why);

@@ -34,4 +34,4 @@ slice-aggregate-serve-last c = sym (length-take-le _ (c .before .before .before 
 
 pub serve-spec : {M : Type 1} → statement M
 serve-spec =
-    tie.close (tie.spec Inv-loop μ-loop (λ c κs. search needs) (λ c. search needs) (λ c. search needs) slice-aggregate-serve-lines (λ c κs. search needs) (λ c κs. search needs) (λ c. search needs) (λ c. search needs) (λ c. search needs) (λ c κs. search needs) sub-turns loop-less (λ c. search needs) (λ c κs. search needs) (λ c. search needs) (λ c. search needs) (λ c. search needs) (λ c. search needs) slice-aggregate-serve-last (λ c κs. search needs) (λ c. search needs) (λ c. search needs) (λ c. search needs))
+    tie.close (tie.spec Inv-loop μ-loop (λ c κs. search needs) (λ c. search needs) (λ c. search needs) slice-aggregate-serve-lines (λ c κs. search needs) (λ c. search needs) (λ c. search needs) (λ c. search needs) (λ c κs. search needs) sub-turns loop-less (λ c. search needs) (λ c κs. search needs) (λ c. search needs) (λ c. search needs) (λ c. search needs) (λ c. search needs) slice-aggregate-serve-last (λ c κs. search needs) (λ c. search needs) (λ c. search needs) (λ c. search needs))
