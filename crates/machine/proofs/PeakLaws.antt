@@ -24,24 +24,19 @@ use Rattle.machine.specs.Tells.{lineNews, viewIn, fileView, Known, readi
 use Rattle.machine.proofs.TestLaws.{or-in, eqb-refl, cond-either, cond-cases}
 use Rattle.machine.proofs.SampleRange.{valid-is}
 use Rattle.machine.proofs.PlacesLaws.{each-map, each-front}
+use Rattle.machine.proofs.AnyLaws.{any-append}
 use Rattle.machine.proofs.TellsLaws.{view-in-append, tells, isThere}
 use Rattle.machine.proofs.MomentLaws.{each-moment}
 
 -- Numbers in lists.
 
 has-before : (v : ℕ) (xs ys : List ℕ) → has v xs ≡ true → has v (xs ++ ys) ≡ true
-unfolding has any
-has-before v [] ys h = absurd (true≢false (sym h))
-has-before v (x ∷ xs) ys h = go (eqb v x) h (has-before v xs ys)
-  where
-    go : (b : Bool) → (b || any (eqb v) xs) ≡ true → (any (eqb v) xs ≡ true → any (eqb v) (xs ++ ys) ≡ true) → (b || any (eqb v) (xs ++ ys)) ≡ true
-    go true q ih = refl
-    go false q ih = ih q
+unfolding has
+has-before v xs ys h = any-append (eqb v) xs ys ∙ ap (λ b. b || any (eqb v) ys) h
 
 has-behind : (v : ℕ) (xs ys : List ℕ) → has v ys ≡ true → has v (xs ++ ys) ≡ true
-unfolding has any
-has-behind v [] ys h = h
-has-behind v (x ∷ xs) ys h = or-in (eqb v x) (any (eqb v) (xs ++ ys)) (has-behind v xs ys h)
+unfolding has
+has-behind v xs ys h = any-append (eqb v) xs ys ∙ or-in (any (eqb v) xs) (any (eqb v) ys) h
 
 highest-has : (v : ℕ) (ns : List ℕ) → has v ns ≡ true → v ≤ highest ns
 unfolding has any highest
