@@ -2,7 +2,7 @@
 use Prim.Native.Nat.{ℕ}
 use Prim.Native.Char.{code}
 use mathlib.Core.Path.{_≡_, refl, ap, sym, _∙_}
-use mathlib.Core.Bool.{Bool, true, false, cond, _&&_, _||_, true≢false}
+use mathlib.Core.Bool.{Bool, true, false, cond, _&&_, _||_}
 use mathlib.Core.List.{List, [], _∷_, map}
 use mathlib.Core.Option.{Option, none, some}
 use lib.Dec.{eqb, ltb}
@@ -27,7 +27,7 @@ use Rattle.machine.specs.Declined.{Action, Connect, Disconnect, Tick, Re
 use Rattle.machine.specs.Machine.{step, written}
 use Rattle.machine.specs.Reader.{isOk}
 use Rattle.machine.specs.TwoDevices.{after, packetsOf, isRequest, answered}
-use Rattle.machine.proofs.TestLaws.{cond-either}
+use Rattle.machine.proofs.TestLaws.{none-some, cond-either}
 use Rattle.machine.proofs.StepLaws.{nameFor, request-name, request-found, other-kind, request-asked}
 use Rattle.machine.proofs.FileLaws.{line-parses}
 use Rattle.machine.proofs.QuietLaws.{code-not-ok}
@@ -73,10 +73,6 @@ refused-not-ok name c s n (Line k line) = cond-either (λ ds. okIn name c ds ≡
     go (Unknown m) = one-not (eqb k c) _ (and-not (same (m .name) name) _ (code-not-ok n))
     go (Asks r m) = one-not (eqb k c) _ (and-not (same (m .name) name) _ (code-not-ok n))
 
-abbrev isNothing : Option Request → Bool
-isNothing none = true
-isNothing (some r) = false
-
 -- what a line asks by its name
 abbrev pub asksFor : Request → Asked → Bool
 asksFor r Nothing = false
@@ -95,10 +91,7 @@ request-is r line = go (parse line) refl
       where
         unnamed : (b : Bool) → same (m .name) (nameFor r) ≡ b → b ≡ false
         unnamed false q = refl
-        unnamed true q = absurd (apart (sym e ∙ (ap requestNamed (same-true (m .name) (nameFor r) q) ∙ request-found r)))
-          where
-            apart : none ≡ some r → ⊥
-            apart z = true≢false (ap isNothing z)
+        unnamed true q = absurd (none-some r (sym e ∙ (ap requestNamed (same-true (m .name) (nameFor r) q) ∙ request-found r)))
 
     other : (m : Message) → parse line ≡ message m → eqb (m .kind) (code "?") ≡ false → false ≡ asksFor r (cond (blankLine line) Nothing (askedBy (parse line)))
     other m e k = cond-either (λ w. false ≡ asksFor r w) (blankLine line) Nothing (askedBy (parse line)) refl (rw e (by-kind (eqb (m .kind) (code "#")) (eqb (m .kind) (code "!")) refl refl))

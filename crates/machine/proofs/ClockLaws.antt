@@ -11,7 +11,7 @@ use borrow.Author.Tests.{leb-true, le-leb}
 use Rattle.output.specs.Text.{text}
 use Rattle.output.specs.Read.{inTime}
 use Rattle.output.proofs.ReadBack.{times}
-use Rattle.message.specs.Message.{Message, line}
+use Rattle.message.specs.Message.{Message}
 use Rattle.message.specs.Delivery.{Delivery, to}
 use Rattle.line.specs.Line.{message, parse, WellFormed}
 use Rattle.value.specs.declared.Sample.{Sample}
@@ -37,10 +37,10 @@ use Rattle.machine.proofs.PlacesLaws.{each-append, each-gather, each-on
 use Rattle.machine.proofs.RangeLaws.{range-out}
 use Rattle.machine.proofs.StepLaws.{by-cases, accepted, by-asking}
 use Rattle.machine.proofs.KeptInRange.{after-in-range}
-use Rattle.machine.proofs.FileLaws.{line-parses}
 use Rattle.machine.proofs.Sent.{sent-well-formed}
 use Rattle.machine.proofs.ListLaws.{clock-is, sent-packets}
 use Rattle.machine.proofs.ArchiveLaws.{lines-packed, each-to}
+use Rattle.machine.proofs.TellsLaws.{lines-read}
 
 -- a message that shows a clock shows t
 abbrev Timed : ℕ → Message → Type 0
@@ -181,14 +181,10 @@ module _ (bytes : List ℕ) where
 
   -- Lines.
 
-  lines-timed : (t : ℕ) (ms : List Message) → Each WellFormed ms → Each (Timed t) ms → Each (λ l. showsClock (parse (withoutEnd l)) ≡ true → lineClock l ≡ some t) (map line ms)
-  lines-timed t [] w h = tt
-  lines-timed t (m ∷ ms) w h = (subst (λ p. showsClock p ≡ true → clockIn p ≡ some t) (sym (line-parses m (w .0))) (h .0), lines-timed t ms (w .1) (h .1))
-
   shown : (a : ℕ) (h : List Call) (call : Call) → Each (λ l. showsClock (parse (withoutEnd l)) ≡ true → lineClock l ≡ some (clockOf bytes (call ∷ h))) (linesTo a (packetsOf bytes h call))
   shown a h call = let t = clockOf bytes (call ∷ h) in let ds = step (after bytes h) call .sent in
       subst (Each (λ l. showsClock (parse (withoutEnd l)) ≡ true → lineClock l ≡ some t)) (sym (ap (linesTo a) (sent-packets bytes a h call) ∙ lines-packed a ds))
-      (lines-timed t (sentTo a ds) (each-to WellFormed a ds (sent-well-formed (after bytes h) call)) (each-to (Timed t) a ds (sent-timed h call)))
+      (lines-read (λ p. showsClock p ≡ true → clockIn p ≡ some t) (sentTo a ds) (each-to WellFormed a ds (sent-well-formed (after bytes h) call)) (each-to (Timed t) a ds (sent-timed h call)))
 
   -- a line that shows a clock shows one that is not later than now
   abbrev Not-later : ℕ → List ℕ → Type 0

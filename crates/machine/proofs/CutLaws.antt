@@ -29,7 +29,7 @@ use Rattle.machine.proofs.FileLaws.{line-parses}
 use Rattle.machine.proofs.Sent.{sent-well-formed}
 use Rattle.machine.proofs.ListLaws.{sheet-is, sent-packets}
 use Rattle.machine.proofs.ArchiveLaws.{lines-packed, each-to}
-use Rattle.machine.proofs.TellsLaws.{view-in-append, lines-say, tells}
+use Rattle.machine.proofs.TellsLaws.{view-in-append, lines-read, tells}
 use Rattle.machine.proofs.MomentLaws.{still-on, more-lines}
 
 -- Lists that are cut in two ways.
@@ -110,7 +110,7 @@ module _ (sheet : Sheet) where
 call-settles : (s : State) (call : Call) (a : ℕ) → Each WellFormed (sentTo a (step s call .sent)) → Settles (s .sheet) (map line (sentTo a (step s call .sent)))
 unfolding sentTo
 call-settles s call a = by-shape (λ ds. Each WellFormed (sentTo a ds) → Settles (s .sheet) (map line (sentTo a ds))) s call
-    (λ ds q w. still-settles (s .sheet) _ (lines-say (s .sheet) (λ v. v ≡ Other) (sentTo a ds) w (each-to (λ m. news (s .sheet) m ≡ Other) a ds q)))
+    (λ ds q w. still-settles (s .sheet) _ (lines-read (λ p. newsIn (s .sheet) p ≡ Other) (sentTo a ds) w (each-to (λ m. news (s .sheet) m ≡ Other) a ds q)))
     (λ ds q w. reports-settle (s .sheet) t _ (at-clock ds q w))
     (λ c m js st ds e q n. cond-either (λ ms. Each WellFormed ms → Settles (s .sheet) (map line ms)) (eqb c a) (m ∷ sentTo a ds) (sentTo a ds)
     (λ w. set-settles (s .sheet) t (line m) js st (map line (sentTo a ds)) (ap (newsIn (s .sheet)) (line-parses m (w .0)) ∙ e) (at-clock ds q (w .1)) (λ z. ap (λ ds. map line (sentTo a ds)) (n z)))
@@ -121,7 +121,7 @@ call-settles s call a = by-shape (λ ds. Each WellFormed (sentTo a ds) → Settl
 
     at-clock : (ds : List Delivery) → ReportsOf (s .sheet) (step s call .next) ds → Each WellFormed (sentTo a ds) → Each (LineAt (s .sheet) t) (map line (sentTo a ds))
     at-clock ds q w = each-weaker (λ l. Held (s .sheet) (step s call .next) (lineNews (s .sheet) l)) (LineAt (s .sheet) t) (λ l h. (h .0, (_, (h .1 .1, refl)))) (map line (sentTo a ds))
-        (lines-say (s .sheet) (Held (s .sheet) (step s call .next)) (sentTo a ds) w (each-to (λ m. Held (s .sheet) (step s call .next) (news (s .sheet) m)) a ds q))
+        (lines-read (λ p. Held (s .sheet) (step s call .next) (newsIn (s .sheet) p)) (sentTo a ds) w (each-to (λ m. Held (s .sheet) (step s call .next) (news (s .sheet) m)) a ds q))
 
 -- A list of calls.
 

@@ -22,7 +22,7 @@ use Rattle.machine.specs.Reader.{News, Other, Impossible, Reported, SetT
 use Rattle.machine.specs.TwoDevices.{sheetOf, connects, connectedAtEnd, linesOf, withoutEnd}
 use Rattle.machine.specs.Tells.{newsIn, lineNews, showsClock, clockIn, lineClock, connectsIn}
 use Rattle.machine.specs.Cut.{isReport, goesOn, leavesOpen, nextClock, isSamplingOk, CutTells, upToLine, GaveLine}
-use Rattle.machine.proofs.TestLaws.{and-true, cond-either, cond-cases, cond-true}
+use Rattle.machine.proofs.TestLaws.{none-some, and-true, cond-either, cond-cases, cond-true}
 use Rattle.machine.proofs.PlacesLaws.{each-behind}
 use Rattle.machine.proofs.ArchiveLaws.{sampling-either}
 use Rattle.machine.proofs.MomentLaws.{still-on}
@@ -125,11 +125,7 @@ module _ (sheet : Sheet) where
 
   later-closes : (before : List (List ℕ)) (l : List ℕ) (seen : List (List ℕ)) (t : ℕ) → isSamplingOk (parse (withoutEnd l)) ≡ false → nextClock seen ≡ some t
       → Each (λ k. (u : ℕ) → lineClock k ≡ some u → u < t) (before ++ (l ∷ [])) → leavesOpen sheet l seen ≡ false
-  later-closes before l [] t other n h = absurd (true≢false (sym (ap isClock n)))
-    where
-      isClock : Option ℕ → Bool
-      isClock none = false
-      isClock (some t) = true
+  later-closes before l [] t other n h = absurd (none-some t n)
   later-closes before l (next ∷ rest) t other n h = later-not l next rest t other n (each-behind (λ k. (u : ℕ) → lineClock k ≡ some u → u < t) before (l ∷ []) h .0)
 
 -- The call that gave a line.

@@ -4,7 +4,7 @@ use native.Mathlib.Omega.{arith}
 use mathlib.Core.Path.{_≡_, refl, ap, sym, _∙_, subst}
 use mathlib.Core.Bool.{Bool, true, false, cond, _&&_, _||_, true≢false}
 use mathlib.Core.List.{List, [], _∷_, _++_, map, append-assoc, append-nil, append-cancel-left}
-use mathlib.Core.Option.{Option, none, some, Option·some-injective}
+use mathlib.Core.Option.{Option, some, Option·some-injective}
 use lib.Dec.{eqb, ltb}
 use borrow.Author.Tests.{eqb-true, ltb-true, ltb-false}
 use Rattle.value.specs.declared.Sample.{Sample}
@@ -21,11 +21,11 @@ use Rattle.machine.specs.Declined.{Call}
 use Rattle.machine.specs.Reader.{Told, News, Other, Impossible, Reported, SetTo, validStatus, View, viewAfter, noView}
 use Rattle.machine.specs.TwoDevices.{sheetOf, connectedAtEnd, linesOf, strategyOf, clockOf}
 use Rattle.machine.specs.Tells.{lineNews, viewIn, fileView, Known, readingAt, moments, validNumbers, validIn, validReports, highest, reach, Under, KeepsStrategy, PeakBounded, TellsAt}
-use Rattle.machine.proofs.TestLaws.{or-in, eqb-refl, cond-either, cond-cases}
+use Rattle.machine.proofs.TestLaws.{none-some, or-in, eqb-refl, cond-either, cond-cases}
 use Rattle.machine.proofs.SampleRange.{valid-is}
 use Rattle.machine.proofs.PlacesLaws.{each-map, each-front}
 use Rattle.machine.proofs.AnyLaws.{any-append}
-use Rattle.machine.proofs.TellsLaws.{view-in-append, tells, isThere}
+use Rattle.machine.proofs.TellsLaws.{view-in-append, tells}
 use Rattle.machine.proofs.MomentLaws.{each-moment}
 
 -- Numbers in lists.
@@ -48,10 +48,6 @@ highest-has v (n ∷ ns) h = go (eqb v n) (ltb (highest ns) n) refl refl h (high
     go true false p q r ih = omega (arith, eqb-true v n p, ltb-false (highest ns) n q)
     go false true p q r ih = omega (arith, ih r, ltb-true (highest ns) n q)
     go false false p q r ih = ih r
-
-abbrev isReach : Option ℕ → Bool
-isReach none = false
-isReach (some w) = true
 
 -- The last report is in the file.
 
@@ -91,18 +87,18 @@ module _ (sheet : Sheet) (j : ℕ) where
 
 module _ (n : Sensor) (clock : ℕ) (x : Sample) (r : Told) where
   reached : (st : Strategy) (w : ℕ) → reach n st ≡ some w → Known n clock x st r → (statusFor n x ≡ r .status) × (isValid x ≡ true → apart (x .number) (r .value) * 1000000 ≤ w)
-  reached None w e k = absurd (true≢false (sym (ap isReach e)))
+  reached None w e k = absurd (none-some w e)
   reached Auto w e k = (k .0, λ _. omega (arith, k .1))
-  reached (Period p) w e k = absurd (true≢false (sym (ap isReach e)))
+  reached (Period p) w e k = absurd (none-some w e)
   reached Event w e k = (k .0, λ _. omega (arith, k .1))
   reached (Differential d) w e k = (k .0, λ v. omega (arith, k .1 v, Option·some-injective (width n d) w e))
-  reached (EventRate a b) w e k = absurd (true≢false (sym (ap isReach e)))
-  reached (DifferentialRate d a b) w e k = absurd (true≢false (sym (ap isReach e)))
+  reached (EventRate a b) w e k = absurd (none-some w e)
+  reached (DifferentialRate d a b) w e k = absurd (none-some w e)
 
 -- a strategy that has one is not none
 reach-some : (n : Sensor) (st : Strategy) (w : ℕ) → reach n st ≡ some w → isNone st ≡ false
 unfolding isNone
-reach-some n None w e = absurd (true≢false (sym (ap isReach e)))
+reach-some n None w e = absurd (none-some w e)
 reach-some n Auto w e = refl
 reach-some n (Period p) w e = refl
 reach-some n Event w e = refl
@@ -145,7 +141,7 @@ covered-then bytes a j w st hs re file g rest on f set valid = (
 
     listed : has (r .value) (validReports (sheetOf bytes) j (linesOf bytes a g)) ≡ true
     listed = last-in (sheetOf bytes) j (has (r .value) (validReports (sheetOf bytes) j (linesOf bytes a g)) ≡ true) (linesOf bytes a g) _ r
-        (ap validStatus (sym (near .0)) ∙ (sym (valid-is n (readingAt bytes j g)) ∙ valid)) (told .1) (λ q. absurd (true≢false (sym (ap isThere q)))) (λ q. q)
+        (ap validStatus (sym (near .0)) ∙ (sym (valid-is n (readingAt bytes j g)) ∙ valid)) (told .1) (λ q. absurd (none-some r q)) (λ q. q)
 
 module _ (bytes : List ℕ) (a j w : ℕ) (st : Strategy) (later h : List Call) (u : Under bytes a j st later h) (re : reach (sensorOf (sheetOf bytes) j) st ≡ some w) where
   abbrev file : List (List ℕ)

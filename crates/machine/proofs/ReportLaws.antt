@@ -15,7 +15,7 @@ use Rattle.machine.specs.Declined.{Call}
 use Rattle.machine.specs.Machine.{step}
 use Rattle.machine.specs.Reader.{Told, News, Other, Impossible, Reported, SetTo, news, told, toldOf}
 use Rattle.machine.specs.TwoDevices.{after, sheetOf, packetsOf, linesTo, sentTo, clockOf}
-use Rattle.machine.specs.Tells.{lineNews, readingAt, ReportsTrue}
+use Rattle.machine.specs.Tells.{newsIn, lineNews, readingAt, ReportsTrue}
 use Rattle.machine.specs.Cut.{isReport}
 use Rattle.machine.proofs.PlacesLaws.{each-weaker}
 use Rattle.machine.proofs.QuietLaws.{Silent}
@@ -23,7 +23,7 @@ use Rattle.machine.proofs.ShapeLaws.{Held, ReportsOf, by-shape}
 use Rattle.machine.proofs.Sent.{sent-well-formed}
 use Rattle.machine.proofs.ListLaws.{sheet-is, clock-is, reading-is, sent-packets}
 use Rattle.machine.proofs.ArchiveLaws.{lines-packed, each-to}
-use Rattle.machine.proofs.TellsLaws.{lines-say, sheet-rules}
+use Rattle.machine.proofs.TellsLaws.{lines-read, sheet-rules}
 
 -- news that, if they are a report, are one of the state's
 abbrev True : Sheet → State → News → Type 0
@@ -73,7 +73,7 @@ module _ (bytes : List ℕ) where
   lines-true a h call = let ds = step (after bytes h) call .sent in
       subst (λ sheet. Each (λ l. True sheet (step (after bytes h) call .next) (lineNews sheet l)) (linesTo a (packetsOf bytes h call))) (sheet-is bytes h)
       (subst (Each (λ l. True (after bytes h .sheet) (step (after bytes h) call .next) (lineNews (after bytes h .sheet) l))) (sym (ap (linesTo a) (sent-packets bytes a h call) ∙ lines-packed a ds))
-      (lines-say (after bytes h .sheet) (True (after bytes h .sheet) (step (after bytes h) call .next)) (sentTo a ds) (each-to WellFormed a ds (sent-well-formed (after bytes h) call))
+      (lines-read (λ p. True (after bytes h .sheet) (step (after bytes h) call .next) (newsIn (after bytes h .sheet) p)) (sentTo a ds) (each-to WellFormed a ds (sent-well-formed (after bytes h) call))
       (each-to (λ m. True (after bytes h .sheet) (step (after bytes h) call .next) (news (after bytes h .sheet) m)) a ds (sent-true (after bytes h) call))))
 
 -- reports

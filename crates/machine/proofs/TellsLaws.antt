@@ -2,13 +2,13 @@
 use Prim.Native.Nat.{ℕ, _≤_, _<_}
 use native.Mathlib.Omega.{arith}
 use mathlib.Core.Path.{_≡_, refl, ap, sym, _∙_, subst}
-use mathlib.Core.Bool.{Bool, true, false, cond, true≢false}
+use mathlib.Core.Bool.{Bool, true, false, cond}
 use mathlib.Core.List.{List, [], _∷_, _++_, map}
 use mathlib.Core.Option.{Option, none, some, Option·some-injective}
 use lib.ListN.{take}
 use Rattle.message.specs.Message.{Message, line}
 use Rattle.message.specs.Delivery.{Delivery}
-use Rattle.line.specs.Line.{WellFormed}
+use Rattle.line.specs.Line.{Parse, message, parse, WellFormed}
 use Rattle.value.specs.declared.Sample.{Sample}
 use Rattle.machine.specs.declared.Sensor.{Sensor}
 use Rattle.machine.specs.declared.Sheet.{Sheet}
@@ -20,10 +20,11 @@ use Rattle.machine.specs.Sheet.{sensorOf}
 use Rattle.machine.specs.State.{connected, present, pairOf}
 use Rattle.machine.specs.Declined.{Call}
 use Rattle.machine.specs.Machine.{step}
-use Rattle.machine.specs.Reader.{Told, News, Impossible, news, View, viewAfter, viewBy, noView, viewOf, standing, toldOf}
-use Rattle.machine.specs.TwoDevices.{after, sheetOf, connectedAtEnd, linesOf, messagesOf, strategyOf, lastReport, later}
+use Rattle.machine.specs.Reader.{Told, Impossible, news, View, viewAfter, viewBy, noView, viewOf, standing, toldOf}
+use Rattle.machine.specs.TwoDevices.{after, sheetOf, connectedAtEnd, linesOf, messagesOf, strategyOf, lastReport, later, withoutEnd}
 use Rattle.machine.specs.Tells.{newsIn, lineNews, viewIn, fileView, Known, ViewTells, readingAt, TellsAt, Tells}
 use Rattle.machine.specs.Cut.{wholeLines, FileCut}
+use Rattle.machine.proofs.TestLaws.{none-some}
 use Rattle.machine.proofs.SheetLaws.{Sensors, sensors-out}
 use Rattle.machine.proofs.OpenedRange.{opened-range}
 use Rattle.machine.proofs.Impossible.{never-impossible}
@@ -42,10 +43,10 @@ unfolding viewIn viewBy
 view-lines sheet j [] v w = refl
 view-lines sheet j (m ∷ ms) v w = ap (λ p. viewIn sheet j (map line ms) (viewAfter j (newsIn sheet p) v)) (line-parses m (w .0)) ∙ view-lines sheet j ms _ (w .1)
 
--- what holds of messages' news holds of their lines'
-pub lines-say : (sheet : Sheet) (Q : News → Type 0) (ms : List Message) → Each WellFormed ms → Each (λ m. Q (news sheet m)) ms → Each (λ l. Q (lineNews sheet l)) (map line ms)
-lines-say sheet Q [] w h = tt
-lines-say sheet Q (m ∷ ms) w h = (subst (λ p. Q (newsIn sheet p)) (sym (line-parses m (w .0))) (h .0), lines-say sheet Q ms (w .1) (h .1))
+-- what holds of messages holds of their lines, read
+pub lines-read : (Q : Parse → Type 0) (ms : List Message) → Each WellFormed ms → Each (λ m. Q (message m)) ms → Each (λ l. Q (parse (withoutEnd l))) (map line ms)
+lines-read Q [] w h = tt
+lines-read Q (m ∷ ms) w h = (subst Q (sym (line-parses m (w .0))) (h .0), lines-read Q ms (w .1) (h .1))
 
 pub view-in-append : (sheet : Sheet) (j : ℕ) (xs ys : List (List ℕ)) (v : View) → viewIn sheet j (xs ++ ys) v ≡ viewIn sheet j ys (viewIn sheet j xs v)
 unfolding viewIn
@@ -68,10 +69,6 @@ known-earlier n now clock x (Differential d) r h k = k
 known-earlier n now clock x (EventRate a b) r h k = λ p. k (omega arith)
 known-earlier n now clock x (DifferentialRate d a b) r h k = λ p. k (omega arith)
 
-abbrev pub isThere : Option Told → Bool
-isThere none = false
-isThere (some r) = true
-
 -- a pair that is good, as a reader sees it
 pub good-tells : (n : Sensor) (clock : ℕ) (x : Sample) (p : Subscription) → Good n clock x p → ViewTells n (viewOf n p) clock x
 good-tells n clock x p g = record {
@@ -81,7 +78,7 @@ good-tells n clock x p g = record {
   where
     same : (r : Told) (b : Bool) → cond b (some (toldOf n (p .time) (p .sample))) none ≡ some r → toldOf n (p .time) (p .sample) ≡ r
     same r true e = Option·some-injective (toldOf n (p .time) (p .sample)) r e
-    same r false e = absurd (true≢false (sym (ap isThere e)))
+    same r false e = absurd (none-some r e)
 
 pub sheet-rules : (bytes : List ℕ) → Sensors (sheetOf bytes)
 sheet-rules bytes = sensors-out (sheetOf bytes) (opened-range bytes .sensors-in)

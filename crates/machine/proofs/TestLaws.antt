@@ -1,8 +1,9 @@
 -- Tests and choices.
 use Prim.Native.Nat.{ℕ, _<_}
 use native.Mathlib.Omega.{arith}
-use mathlib.Core.Path.{_≡_, refl, sym}
+use mathlib.Core.Path.{_≡_, refl, ap, sym}
 use mathlib.Core.Bool.{Bool, true, false, cond, not, _&&_, _||_, true≢false, or-false as or-no}
+use mathlib.Core.Option.{Option, none, some}
 use lib.Dec.{eqb}
 use borrow.Author.Tests.{eqb-true, eqb-false, eq-eqb, ne-eqb}
 
@@ -75,6 +76,14 @@ module _ {A : Type 0} where
 pub cond-ap : {A B : Type 0} (f : A → B) (b : Bool) (x y : A) → f (cond b x y) ≡ cond b (f x) (f y)
 cond-ap f true x y = refl
 cond-ap f false x y = refl
+
+module _ {A : Type 0} where
+  abbrev isThere : Option A → Bool
+  isThere none = false
+  isThere (some x) = true
+
+  pub none-some : (x : A) → none ≡ some x → ⊥
+  none-some x e = true≢false (sym (ap isThere e))
 
 -- a row of a table that did not decline
 pub passed : (b : Bool) (n m : ℕ) → 0 < n → cond b n m ≡ 0 → (b ≡ false) × (m ≡ 0)
