@@ -4,3 +4,4 @@ pub mod EmptyLaws
 pub mod ElementLaws
 pub mod ApartLaws
 pub mod DistinctLaws
+pub mod KeyLaws

@@ -1,2 +1,4 @@
 pub mod Texts
 pub mod Apart
+pub mod Keys
+pub mod Found

@@ -1,20 +1,20 @@
 -- The invariant: what is found is the test of each place below k. After the loop k is 8.
+use borrow.Author.Needs.{needs}
 use Prim.Native.Nat.{_≤_, _-_}
 use native.Mathlib.Numerals.{add-one}
 use native.Mathlib.Omega.{arith}
 use mathlib.Core.Path.{_≡_, refl}
 use lib.ListN.{getD}
-use borrow.Author.Needs.{needs}
 use Rattle.machine.specs.Places.{allBelow}
 use Rattle.machine.specs.Sheet.{noChoice, choiceOk}
 use Rattle.rules.proofs.choices_ok.Statement.{statement}
 use Rattle.rules.proofs.choices_ok.Tie as tie
 
 abbrev Inv-loop : tie.InvT-loop
-Inv-loop count options ok₀ k₀ ok k = (k ≤ 8) × (ok ≡ allBelow (λ k. choiceOk count k (getD options k noChoice)) k)
+Inv-loop places count options ok₀ k₀ ok k = (k ≤ 8) × (ok ≡ allBelow (λ k. choiceOk count k (getD options k noChoice)) k)
 
 abbrev μ-loop : tie.MeasureT-loop
-μ-loop count options ok₀ k₀ ok k = 8 - k
+μ-loop places count options ok₀ k₀ ok k = 8 - k
 
 loop-holds : tie.Need-loop-holds Inv-loop μ-loop
 unfolding allBelow

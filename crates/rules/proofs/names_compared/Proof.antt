@@ -7,8 +7,8 @@ use borrow.Author.Needs.{needs}
 use Rattle.machine.specs.Places.{allBelow}
 use Rattle.rules.specs.Apart.{apartAt, namesAlike, namesApart}
 use Rattle.rules.proofs.ElementLaws.{names-long}
-use Rattle.rules.proofs.names_apart.Statement.{statement}
-use Rattle.rules.proofs.names_apart.Tie as tie
+use Rattle.rules.proofs.names_compared.Statement.{statement}
+use Rattle.rules.proofs.names_compared.Tie as tie
 
 abbrev Inv-loop : tie.InvT-loop
 Inv-loop sheet count ok₀ q₀ ok q = (q ≤ 1024) × (ok ≡ allBelow (apartAt 32 count (namesAlike sheet)) q)
@@ -58,8 +58,8 @@ returns : tie.Need-returns Inv-loop μ-loop
 unfolding namesApart
 returns c = let e : c .before .loop .q ≡ 1024 = omega arith in rw (c .before .loop .inv .1, e)
 
-pub names-apart-spec : {M : Type 1} → statement M
-names-apart-spec =
+pub names-compared-spec : {M : Type 1} → statement M
+names-compared-spec =
     tie.close
     (tie.spec
     Inv-loop

@@ -6,20 +6,15 @@ use mathlib.Core.Path.{_≡_, refl, sym}
 use borrow.Author.Needs.{needs}
 use Rattle.machine.specs.Places.{allBelow}
 use Rattle.rules.specs.Apart.{apartAt, choicesAlike, choicesApart}
-use Rattle.rules.proofs.ApartLaws.{apart-pairs}
 use Rattle.rules.proofs.ElementLaws.{choices-long}
-use Rattle.rules.proofs.choices_apart.Statement.{statement}
-use Rattle.rules.proofs.choices_apart.Tie as tie
+use Rattle.rules.proofs.choices_compared.Statement.{statement}
+use Rattle.rules.proofs.choices_compared.Tie as tie
 
 abbrev Inv-loop : tie.InvT-loop
 Inv-loop count options n ok₀ q₀ ok q = (q ≤ 64) × (ok ≡ allBelow (apartAt 8 n (choicesAlike options)) q)
 
 abbrev μ-loop : tie.MeasureT-loop
 μ-loop count options n ok₀ q₀ ok q = 64 - q
-
-returns : tie.Need-returns Inv-loop μ-loop
-unfolding choicesApart allBelow
-returns c = rw (c .if1 .taken) (sym (apart-pairs 8 0 (choicesAlike (c .before .args .t2)) (omega arith)))
 
 loop-holds : tie.Need-loop-holds Inv-loop μ-loop
 unfolding allBelow
@@ -38,10 +33,10 @@ array-copy-out-other : tie.Need-array-copy-out-other Inv-loop μ-loop
 array-copy-out-other c = search needs
 
 slice-aggregate-alike-texts : tie.Need-slice-aggregate-alike-texts Inv-loop μ-loop
-slice-aggregate-alike-texts c = sym (choices-long (c .before .before .before .before .before .before .before .before .args .t2) _ (c .before .before .before .before .before .before .before .before .good .1 .0) _ (omega arith))
+slice-aggregate-alike-texts c = sym (choices-long (c .before .before .before .before .before .before .before .args .t2) _ (c .before .before .before .before .before .before .before .good .1 .0) _ (omega arith))
 
 slice-aggregate-alike-texts-2 : tie.Need-slice-aggregate-alike-texts-2 Inv-loop μ-loop
-slice-aggregate-alike-texts-2 c = sym (choices-long (c .before .before .before .before .before .before .before .before .before .args .t2) _ (c .before .before .before .before .before .before .before .before .before .good .1 .0) _ (omega arith))
+slice-aggregate-alike-texts-2 c = sym (choices-long (c .before .before .before .before .before .before .before .before .args .t2) _ (c .before .before .before .before .before .before .before .before .good .1 .0) _ (omega arith))
 
 alike-texts-requires : tie.Need-alike-texts-requires Inv-loop μ-loop
 alike-texts-requires c κs = search needs
@@ -56,17 +51,16 @@ loop-again : tie.Need-loop-again Inv-loop μ-loop
 unfolding allBelow apartAt
 loop-again c = (omega arith, rw (add-one, c .before .before .before .before .before .before .before .before .loop .inv .1, c .alike-texts .ensures))
 
-returns-2 : tie.Need-returns-2 Inv-loop μ-loop
+returns : tie.Need-returns Inv-loop μ-loop
 unfolding choicesApart
-returns-2 c = let e : c .before .loop .q ≡ 64 = omega arith in rw (c .before .loop .inv .1, e)
+returns c = let e : c .before .loop .q ≡ 64 = omega arith in rw (c .before .loop .inv .1, e)
 
-pub choices-apart-spec : {M : Type 1} → statement M
-choices-apart-spec =
+pub choices-compared-spec : {M : Type 1} → statement M
+choices-compared-spec =
     tie.close
     (tie.spec
     Inv-loop
     μ-loop
-    returns
     loop-holds
     mul-one
     array-copy-out-one
@@ -78,4 +72,4 @@ choices-apart-spec =
     add-q
     loop-less
     loop-again
-    returns-2)
+    returns)
