@@ -4,7 +4,7 @@ use native.Mathlib.Omega.{arith}
 use mathlib.Core.Path.{_≡_, refl}
 use mathlib.Core.Bool.{Bool, _&&_}
 use mathlib.Core.List.{List}
-use lib.Dec.{eqb, ltb}
+use lib.Dec.{eqb, leb, ltb}
 use lib.ListN.{getD}
 use borrow.Author.Tests.{ne-eqb, lt-leb, le-leb, le-ltb}
 use Rattle.output.specs.Text.{all}
@@ -13,6 +13,11 @@ use Rattle.machine.proofs.TestLaws.{cond-false}
 use Rattle.machine.specs.declared.Choice.{Choice}
 use Rattle.machine.specs.Sheet.{textOk, noChoice, choiceNone, choiceOk, zeroByte}
 use Rattle.machine.proofs.PlacesLaws.{below-same}
+
+-- from 0 to 0 there is 0
+pub no-more : (n : ℕ) → (leb 0 n && leb n 0) ≡ eqb n 0
+no-more zero = refl
+no-more (suc n) = rw (lt-leb (suc n) 0 (omega arith), ne-eqb (suc n) 0 (λ e. omega arith), le-leb 0 (suc n) (omega arith))
 
 pub empty-text : (is : ℕ → Bool) (len : ℕ) (bytes : List ℕ) → textOk 0 0 is len bytes ≡ (eqb len 0 && all zeroByte bytes)
 unfolding textOk
