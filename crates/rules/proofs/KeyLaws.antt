@@ -1,46 +1,23 @@
--- Quarters and keys of texts: sixteen bytes are zero where their quarters are, and texts whose keys stand once each are apart.
+-- Texts whose keys stand once each are apart.
 use Prim.Native.Nat.{ℕ, zero, suc, _+_, _*_, _<_, _≤_}
 use native.Mathlib.Omega.{arith}
 use mathlib.Core.Path.{_≡_, refl, sym, ap, _∙_}
-use mathlib.Core.Bool.{Bool, true, false, cond, not, _&&_, and-assoc, and-true as and-right}
+use mathlib.Core.Bool.{Bool, true, false, not}
 use mathlib.Core.List.{List}
 use lib.Dec.{eqb, ltb}
-use lib.ListN.{length, drop, getD, replicate, drop-of-length-le, List·getD-append}
+use lib.ListN.{getD, replicate, List·getD-append}
 use borrow.Author.Tests.{eqb-true, eq-eqb, ltb-true, ltb-false}
-use Rattle.output.specs.Text.{same, all}
+use Rattle.output.specs.Text.{same}
 use Rattle.output.proofs.TextLaws.{same-true}
-use Rattle.line.proofs.At.{at}
 use Rattle.machine.specs.declared.Choice.{Choice}
 use Rattle.machine.specs.declared.Sheet.{Sheet}
 use Rattle.machine.specs.Places.{allBelow, tabulate}
-use Rattle.machine.specs.Sheet.{zeroByte, noChoice, sensorOf}
-use Rattle.machine.proofs.TestLaws.{and-true, and-in, test-same, cond-true, cond-cases}
+use Rattle.machine.specs.Sheet.{noChoice, sensorOf}
+use Rattle.machine.proofs.TestLaws.{and-true, cond-true, cond-cases}
 use Rattle.machine.proofs.PlacesLaws.{below-at, below-of, length-tabulate, getD-tabulate}
 use Rattle.rules.specs.Apart.{alike, apartAt, choicesApart, namesApart}
-use Rattle.rules.specs.Keys.{quarterAt, choiceKey, nameKey, choiceKeys, nameKeys, howMany, keysApart}
+use Rattle.rules.specs.Keys.{choiceKey, nameKey, choiceKeys, nameKeys, howMany, keysApart}
 use Rattle.rules.proofs.ApartLaws.{apart-pairs}
-
--- a sum is zero where its parts are
-sum-zero : (a b : ℕ) → eqb (a + 256 * b) 0 ≡ (eqb a 0 && eqb b 0)
-sum-zero a b = test-same (eqb (a + 256 * b) 0) (eqb a 0 && eqb b 0)
-    (λ h. let e = eqb-true (a + 256 * b) 0 h in and-in (eqb a 0) (eqb b 0) (eq-eqb a 0 (omega arith)) (eq-eqb b 0 (omega arith)))
-    (λ h. let k = and-true (eqb a 0) (eqb b 0) h in eq-eqb (a + 256 * b) 0 (omega (arith, eqb-true a 0 (k .0), eqb-true b 0 (k .1))))
-
--- the next four bytes are zero where their quarter is
-zero-quarter : (t : List ℕ) (i : ℕ) → i + 4 ≤ length t → all zeroByte (drop i t) ≡ (eqb (quarterAt t i) 0 && all zeroByte (drop (i + 4) t))
-unfolding quarterAt
-zero-quarter t i h =
-    let e : i + 1 + 1 ≡ i + 2 = omega arith in
-    let f : i + 2 + 1 ≡ i + 3 = omega arith in
-    let g : i + 3 + 1 ≡ i + 4 = omega arith in
-    rw (at t i (omega arith), at t (i + 1) (omega arith), e, at t (i + 2) (omega arith), f, at t (i + 3) (omega arith), g) (simp (sum-zero, and-assoc))
-
--- sixteen bytes are zero where their quarters are
-pub zero-quarters : (t : List ℕ) → length t ≡ 16
-    → (eqb (quarterAt t 0) 0 && (eqb (quarterAt t 4) 0 && (eqb (quarterAt t 8) 0 && eqb (quarterAt t 12) 0))) ≡ all zeroByte t
-zero-quarters t h =
-    sym (zero-quarter t 0 (omega arith)
-    ∙ rw (zero-quarter t 4 (omega arith), zero-quarter t 8 (omega arith), zero-quarter t 12 (omega arith), drop-of-length-le t {i = 16} (omega arith), and-right (eqb (quarterAt t 12) 0)))
 
 module _ (f : ℕ → Bool) where
   -- no more than the places

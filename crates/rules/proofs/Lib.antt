@@ -3,5 +3,6 @@ pub mod BytesLaws
 pub mod EmptyLaws
 pub mod ElementLaws
 pub mod ApartLaws
-pub mod DistinctLaws
 pub mod KeyLaws
+pub mod OptionLaws
+pub mod DistinctLaws

@@ -1,17 +1,8 @@
 -- By its half.
-use Rattle.rules.specs.Keys.{choiceKey}
 use borrow.Author.Needs.{needs}
+use Rattle.rules.specs.Keys.{choiceKey}
 use Rattle.rules.proofs.choice_key.Statement.{statement}
 use Rattle.rules.proofs.choice_key.Tie as tie
-
-slice-aggregate-half-key : tie.Need-slice-aggregate-half-key
-slice-aggregate-half-key c = search needs
-
-half-key-requires : tie.Need-half-key-requires
-half-key-requires c κs = search needs
-
-cast-result : tie.Need-cast-result
-cast-result c = search needs
 
 returns : tie.Need-returns
 unfolding choiceKey
@@ -19,4 +10,4 @@ returns c = cc
 
 pub choice-key-spec : {M : Type 1} → statement M
 choice-key-spec =
-    tie.close (tie.spec slice-aggregate-half-key half-key-requires cast-result returns)
+    tie.close (tie.spec (λ c. search needs) (λ c κs. search needs) (λ c. search needs) returns)

@@ -1,10 +1,10 @@
 -- The invariant: the keys passed are those of the options. After the loop k is 8.
-use borrow.Author.Needs.{needs}
 use Prim.Native.Nat.{ℕ, _≤_, _-_}
 use native.Mathlib.Omega.{arith}
 use mathlib.Core.Path.{_≡_, refl}
 use mathlib.Core.List.{List, _++_}
 use lib.ListN.{getD, drop, replicate}
+use borrow.Author.Needs.{needs}
 use Rattle.machine.specs.declared.Choice.{Choice}
 use Rattle.machine.specs.Places.{tabulate}
 use Rattle.machine.specs.Sheet.{noChoice}
@@ -27,29 +27,8 @@ loop-holds : tie.Need-loop-holds Inv-loop μ-loop
 unfolding tabulate
 loop-holds c = (omega arith, refl)
 
-mul-o : tie.Need-mul-o Inv-loop μ-loop
-mul-o c = search needs
-
-array-copy-out-o : tie.Need-array-copy-out-o Inv-loop μ-loop
-array-copy-out-o c = search needs
-
-choice-key-requires : tie.Need-choice-key-requires Inv-loop μ-loop
-choice-key-requires c κs = search needs
-
-mul-keys : tie.Need-mul-keys Inv-loop μ-loop
-mul-keys c = search needs
-
-array-write-keys : tie.Need-array-write-keys Inv-loop μ-loop
-array-write-keys c = search needs
-
-add-k : tie.Need-add-k Inv-loop μ-loop
-add-k c = search needs
-
-loop-less : tie.Need-loop-less Inv-loop μ-loop
-loop-less c = search needs
-
 loop-again : tie.Need-loop-again Inv-loop μ-loop
-loop-again c = 
+loop-again c =
     let turn = c .before .before .before .before .loop in
     (omega arith, rw (turn .inv .1, c .choice-key .ensures) (filled-one (keyAt (c .before .before .before .before .before .args .t1)) (replicate 32 0) (turn .k) (omega arith)))
 
@@ -59,17 +38,4 @@ returns c = let e : c .before .loop .k ≡ 8 = omega arith in rw (c .before .loo
 
 pub choice-keys-spec : {M : Type 1} → statement M
 choice-keys-spec =
-    tie.close
-    (tie.spec
-    Inv-loop
-    μ-loop
-    loop-holds
-    mul-o
-    array-copy-out-o
-    choice-key-requires
-    mul-keys
-    array-write-keys
-    add-k
-    loop-less
-    loop-again
-    returns)
+    tie.close (tie.spec Inv-loop μ-loop loop-holds (λ c. search needs) (λ c. search needs) (λ c κs. search needs) (λ c. search needs) (λ c. search needs) (λ c. search needs) (λ c. search needs) loop-again returns)

@@ -1,14 +1,11 @@
 -- Below the count the text is an option; from there on the place holds none.
 use native.Mathlib.Omega.{arith}
 use borrow.Author.Tests.{lt-ltb, le-ltb}
+use borrow.Author.Needs.{needs}
 use Rattle.machine.specs.Sheet.{choiceOk}
 use Rattle.rules.proofs.FillLaws.{counted}
-use borrow.Author.Needs.{needs}
 use Rattle.rules.proofs.choice_ok.Statement.{statement}
 use Rattle.rules.proofs.choice_ok.Tie as tie
-
-slice-aggregate-text-ok : tie.Need-slice-aggregate-text-ok
-slice-aggregate-text-ok c = search needs
 
 text-ok-requires : tie.Need-text-ok-requires
 text-ok-requires c κs = counted 16 (search needs) (omega arith) (c .before .before .before .before .pre)
@@ -17,14 +14,10 @@ returns : tie.Need-returns
 unfolding choiceOk
 returns c = rw (lt-ltb _ _ (c .before .before .if1 .taken)) (c .text-ok .ensures)
 
-choice-none-requires : tie.Need-choice-none-requires
-choice-none-requires c κs = search needs
-
 returns-2 : tie.Need-returns-2
 unfolding choiceOk
 returns-2 c = rw (le-ltb _ _ (c .before .if1 .left)) (c .choice-none .ensures)
 
 pub choice-ok-spec : {M : Type 1} → statement M
 choice-ok-spec =
-    tie.close
-    (tie.spec slice-aggregate-text-ok text-ok-requires returns choice-none-requires returns-2)
+    tie.close (tie.spec (λ c. search needs) text-ok-requires returns (λ c κs. search needs) returns-2)

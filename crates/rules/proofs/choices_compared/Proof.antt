@@ -20,32 +20,11 @@ loop-holds : tie.Need-loop-holds Inv-loop μ-loop
 unfolding allBelow
 loop-holds c = (omega arith, refl)
 
-mul-one : tie.Need-mul-one Inv-loop μ-loop
-mul-one c = search needs
-
-array-copy-out-one : tie.Need-array-copy-out-one Inv-loop μ-loop
-array-copy-out-one c = search needs
-
-mul-other : tie.Need-mul-other Inv-loop μ-loop
-mul-other c = search needs
-
-array-copy-out-other : tie.Need-array-copy-out-other Inv-loop μ-loop
-array-copy-out-other c = search needs
-
 slice-aggregate-alike-texts : tie.Need-slice-aggregate-alike-texts Inv-loop μ-loop
 slice-aggregate-alike-texts c = sym (choices-long (c .before .before .before .before .before .before .before .args .t2) _ (c .before .before .before .before .before .before .before .good .1 .0) _ (omega arith))
 
 slice-aggregate-alike-texts-2 : tie.Need-slice-aggregate-alike-texts-2 Inv-loop μ-loop
 slice-aggregate-alike-texts-2 c = sym (choices-long (c .before .before .before .before .before .before .before .before .args .t2) _ (c .before .before .before .before .before .before .before .before .good .1 .0) _ (omega arith))
-
-alike-texts-requires : tie.Need-alike-texts-requires Inv-loop μ-loop
-alike-texts-requires c κs = search needs
-
-add-q : tie.Need-add-q Inv-loop μ-loop
-add-q c = search needs
-
-loop-less : tie.Need-loop-less Inv-loop μ-loop
-loop-less c = search needs
 
 loop-again : tie.Need-loop-again Inv-loop μ-loop
 unfolding allBelow apartAt
@@ -57,19 +36,4 @@ returns c = let e : c .before .loop .q ≡ 64 = omega arith in rw (c .before .lo
 
 pub choices-compared-spec : {M : Type 1} → statement M
 choices-compared-spec =
-    tie.close
-    (tie.spec
-    Inv-loop
-    μ-loop
-    loop-holds
-    mul-one
-    array-copy-out-one
-    mul-other
-    array-copy-out-other
-    slice-aggregate-alike-texts
-    slice-aggregate-alike-texts-2
-    alike-texts-requires
-    add-q
-    loop-less
-    loop-again
-    returns)
+    tie.close (tie.spec Inv-loop μ-loop loop-holds (λ c. search needs) (λ c. search needs) (λ c. search needs) (λ c. search needs) slice-aggregate-alike-texts slice-aggregate-alike-texts-2 (λ c κs. search needs) (λ c. search needs) (λ c. search needs) loop-again returns)

@@ -1,19 +1,13 @@
 -- The address of a connected client, and that of an unconnected one, which is empty.
 use native.Mathlib.Omega.{arith}
 use mathlib.Core.Path.{refl}
+use borrow.Author.Needs.{needs}
 use Rattle.machine.specs.Places.{tabulate}
 use Rattle.machine.specs.Range.{clientOk}
 use Rattle.rules.specs.Texts.{upTo}
 use Rattle.rules.proofs.FillLaws.{counted}
-use borrow.Author.Needs.{needs}
 use Rattle.rules.proofs.client_ok.Statement.{statement}
 use Rattle.rules.proofs.client_ok.Tie as tie
-
-slice-aggregate-text-ok : tie.Need-slice-aggregate-text-ok
-slice-aggregate-text-ok c = search needs
-
-slice-aggregate-text-ok-2 : tie.Need-slice-aggregate-text-ok-2
-slice-aggregate-text-ok-2 c = search needs
 
 text-ok-requires : tie.Need-text-ok-requires
 unfolding upTo tabulate
@@ -22,12 +16,6 @@ text-ok-requires c κs = counted 48 (search needs) (omega arith) refl
 returns : tie.Need-returns
 unfolding clientOk
 returns c = rw (c .before .before .before .if1 .taken) (c .text-ok .ensures)
-
-slice-aggregate-text-ok-3 : tie.Need-slice-aggregate-text-ok-3
-slice-aggregate-text-ok-3 c = search needs
-
-slice-aggregate-text-ok-4 : tie.Need-slice-aggregate-text-ok-4
-slice-aggregate-text-ok-4 c = search needs
 
 text-ok-requires-2 : tie.Need-text-ok-requires-2
 unfolding upTo tabulate
@@ -39,13 +27,4 @@ returns-2 c = rw (c .before .before .before .if1 .left) (c .text-ok2 .ensures)
 
 pub client-ok-spec : {M : Type 1} → statement M
 client-ok-spec =
-    tie.close
-    (tie.spec
-    slice-aggregate-text-ok
-    slice-aggregate-text-ok-2
-    text-ok-requires
-    returns
-    slice-aggregate-text-ok-3
-    slice-aggregate-text-ok-4
-    text-ok-requires-2
-    returns-2)
+    tie.close (tie.spec (λ c. search needs) (λ c. search needs) text-ok-requires returns (λ c. search needs) (λ c. search needs) text-ok-requires-2 returns-2)

@@ -16,39 +16,15 @@ Inv-loop sheet count ok₀ q₀ ok q = (q ≤ 1024) × (ok ≡ allBelow (apartAt
 abbrev μ-loop : tie.MeasureT-loop
 μ-loop sheet count ok₀ q₀ ok q = 1024 - q
 
-cast-count : tie.Need-cast-count Inv-loop μ-loop
-cast-count c = search needs
-
 loop-holds : tie.Need-loop-holds Inv-loop μ-loop
 unfolding allBelow
 loop-holds c = (omega arith, refl)
-
-mul-one : tie.Need-mul-one Inv-loop μ-loop
-mul-one c = search needs
-
-element-copy-out-one : tie.Need-element-copy-out-one Inv-loop μ-loop
-element-copy-out-one c = search needs
-
-mul-other : tie.Need-mul-other Inv-loop μ-loop
-mul-other c = search needs
-
-element-copy-out-other : tie.Need-element-copy-out-other Inv-loop μ-loop
-element-copy-out-other c = search needs
 
 slice-aggregate-alike-texts : tie.Need-slice-aggregate-alike-texts Inv-loop μ-loop
 slice-aggregate-alike-texts c = sym (names-long (c .before .before .before .before .before .before .before .args .t1) _ (c .before .before .before .before .before .before .before .good .0) _ (omega arith))
 
 slice-aggregate-alike-texts-2 : tie.Need-slice-aggregate-alike-texts-2 Inv-loop μ-loop
 slice-aggregate-alike-texts-2 c = sym (names-long (c .before .before .before .before .before .before .before .before .args .t1) _ (c .before .before .before .before .before .before .before .before .good .0) _ (omega arith))
-
-alike-texts-requires : tie.Need-alike-texts-requires Inv-loop μ-loop
-alike-texts-requires c κs = search needs
-
-add-q : tie.Need-add-q Inv-loop μ-loop
-add-q c = search needs
-
-loop-less : tie.Need-loop-less Inv-loop μ-loop
-loop-less c = search needs
 
 loop-again : tie.Need-loop-again Inv-loop μ-loop
 unfolding allBelow apartAt
@@ -60,20 +36,4 @@ returns c = let e : c .before .loop .q ≡ 1024 = omega arith in rw (c .before .
 
 pub names-compared-spec : {M : Type 1} → statement M
 names-compared-spec =
-    tie.close
-    (tie.spec
-    Inv-loop
-    μ-loop
-    cast-count
-    loop-holds
-    mul-one
-    element-copy-out-one
-    mul-other
-    element-copy-out-other
-    slice-aggregate-alike-texts
-    slice-aggregate-alike-texts-2
-    alike-texts-requires
-    add-q
-    loop-less
-    loop-again
-    returns)
+    tie.close (tie.spec Inv-loop μ-loop (λ c. search needs) loop-holds (λ c. search needs) (λ c. search needs) (λ c. search needs) (λ c. search needs) slice-aggregate-alike-texts slice-aggregate-alike-texts-2 (λ c κs. search needs) (λ c. search needs) (λ c. search needs) loop-again returns)

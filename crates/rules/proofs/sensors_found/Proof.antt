@@ -1,15 +1,15 @@
 -- The invariant: what is found is the test of each place below j, and what is written are the type, the number of options and the key of each. After the loop j is 32.
-use borrow.Author.Tests.{not-false}
-use mathlib.Core.Bool.{_&&_}
-use lib.Dec.{leb}
-use borrow.Author.Needs.{needs}
 use Prim.Native.Nat.{ℕ, _≤_, _<_, _-_}
 use native.Mathlib.Numerals.{add-one}
 use native.Mathlib.Omega.{arith}
 use mathlib.Core.Path.{_≡_, refl, sym, _∙_}
+use mathlib.Core.Bool.{_&&_}
 use mathlib.Core.Logic.{⊎-elim}
 use mathlib.Core.List.{List, _++_}
+use lib.Dec.{leb}
 use lib.ListN.{drop, replicate}
+use borrow.Author.Tests.{not-false}
+use borrow.Author.Needs.{needs}
 use Rattle.machine.specs.declared.Sheet.{Sheet}
 use Rattle.machine.specs.Places.{allBelow, tabulate}
 use Rattle.machine.specs.Sheet.{sensorOf, sensorOkAt, sensorsOk}
@@ -46,50 +46,17 @@ Inv-loop sheet count places ok₀ kinds₀ options₀ keys₀ j₀ ok kinds opti
 abbrev μ-loop : tie.MeasureT-loop
 μ-loop sheet count places ok₀ kinds₀ options₀ keys₀ j₀ ok kinds options keys j = 32 - j
 
-cast-count : tie.Need-cast-count Inv-loop μ-loop
-cast-count c = search needs
-
 loop-holds : tie.Need-loop-holds Inv-loop μ-loop
 unfolding allBelow tabulate
 loop-holds c = (omega arith, (refl, (refl, (refl, refl))))
-
-mul-sensor : tie.Need-mul-sensor Inv-loop μ-loop
-mul-sensor c = search needs
-
-element-copy-out-sensor : tie.Need-element-copy-out-sensor Inv-loop μ-loop
-element-copy-out-sensor c = search needs
-
-slice-aggregate-sensor-ok-at : tie.Need-slice-aggregate-sensor-ok-at Inv-loop μ-loop
-slice-aggregate-sensor-ok-at c = search needs
 
 sensor-ok-at-requires : tie.Need-sensor-ok-at-requires Inv-loop μ-loop
 unfolding upTo tabulate
 sensor-ok-at-requires c κs = refl
 
-array-write-kinds : tie.Need-array-write-kinds Inv-loop μ-loop
-array-write-kinds c = search needs
-
-array-write-options : tie.Need-array-write-options Inv-loop μ-loop
-array-write-options c = search needs
-
-name-key-requires : tie.Need-name-key-requires Inv-loop μ-loop
-name-key-requires c κs = search needs
-
-mul-keys : tie.Need-mul-keys Inv-loop μ-loop
-mul-keys c = search needs
-
-array-write-keys : tie.Need-array-write-keys Inv-loop μ-loop
-array-write-keys c = search needs
-
-add-j : tie.Need-add-j Inv-loop μ-loop
-add-j c = search needs
-
-loop-less : tie.Need-loop-less Inv-loop μ-loop
-loop-less c = search needs
-
 loop-again : tie.Need-loop-again Inv-loop μ-loop
 unfolding allBelow
-loop-again c = 
+loop-again c =
     let turn = c .before .before .before .before .before .before .loop in
     let sheet = c .before .before .before .before .before .before .before .args .t1 in
     let below : turn .j < 32 = omega arith in (
@@ -106,52 +73,22 @@ loop-again c =
       ),
     )
 
-held-requires : tie.Need-held-requires Inv-loop μ-loop
-held-requires c κs = search needs
-
-keys-apart-requires : tie.Need-keys-apart-requires Inv-loop μ-loop
-keys-apart-requires c κs = search needs
-
-names-compared-requires : tie.Need-names-compared-requires Inv-loop μ-loop
-names-compared-requires c κs = search needs
-
 returns : tie.Need-returns Inv-loop μ-loop
 unfolding sensorsFound nameKeys
-returns c = 
+returns c =
     let sheet = c .before .before .before .before .before .args .t1 in
     let turn = c .before .before .before .before .loop in
     let e : turn .j ≡ 32 = omega arith in
     let each : turn .ok ≡ allBelow (sensorOkAt sheet) 32 = rw e at (turn .inv .1 .0) in
     let long = names-long sheet _ (c .before .before .before .before .before .good .0) in
     let ok : (leb (sheet .count) 32 && c .if1 .ok) ≡ sensorsOk sheet =
-        ⊎-elim
-        (λ w. rw (w .2, each, w .1 .ensures) (sensors-are sheet long))
-        (λ w. rw (w .1, each) (sensors-keyed sheet long (rw (all-written (keyAt sheet) e (turn .inv .1 .1 .1 .1), c .before .before .held .ensures) at (sym (c .before .keys-apart .ensures) ∙ not-false (c .before .keys-apart .result) (w .0 .left)))))
-        (c .if1 .came)
+    ⊎-elim
+    (λ w. rw (w .2, each, w .1 .ensures) (sensors-are sheet long))
+    (λ w. rw (w .1, each) (sensors-keyed sheet long (rw (all-written (keyAt sheet) e (turn .inv .1 .1 .1 .1), c .before .before .held .ensures) at (sym (c .before .keys-apart .ensures) ∙ not-false (c .before .keys-apart .result) (w .0 .left)))))
+    (c .if1 .came)
     in
     rw (ok, all-written (kindAt sheet) e (turn .inv .1 .1 .0), all-written (optionsAt sheet) e (turn .inv .1 .1 .1 .0))
 
 pub sensors-found-spec : {M : Type 1} → statement M
 sensors-found-spec =
-    tie.close
-    (tie.spec
-    Inv-loop
-    μ-loop
-    cast-count
-    loop-holds
-    mul-sensor
-    element-copy-out-sensor
-    slice-aggregate-sensor-ok-at
-    sensor-ok-at-requires
-    array-write-kinds
-    array-write-options
-    name-key-requires
-    mul-keys
-    array-write-keys
-    add-j
-    loop-less
-    loop-again
-    held-requires
-    keys-apart-requires
-    names-compared-requires
-    returns)
+    tie.close (tie.spec Inv-loop μ-loop (λ c. search needs) loop-holds (λ c. search needs) (λ c. search needs) (λ c. search needs) sensor-ok-at-requires (λ c. search needs) (λ c. search needs) (λ c κs. search needs) (λ c. search needs) (λ c. search needs) (λ c. search needs) (λ c. search needs) loop-again (λ c κs. search needs) (λ c κs. search needs) (λ c κs. search needs) returns)

@@ -21,9 +21,6 @@ loop-holds c = filling _ _ _
 shared-slice-read-b : tie.Need-shared-slice-read-b Inv-loop μ-loop
 shared-slice-read-b c = omega arith
 
-in-charset-requires : tie.Need-in-charset-requires Inv-loop μ-loop
-in-charset-requires c κs = search needs
-
 shared-slice-read-inside : tie.Need-shared-slice-read-inside Inv-loop μ-loop
 shared-slice-read-inside c = omega (arith, places-many (c .before .before .before .before .before .before .before .pre .counts))
 
@@ -42,15 +39,4 @@ returns c = rw (filling-end (c .before .loop .inv) (omega arith))
 
 pub text-ok-spec : {M : Type 1} → statement M
 text-ok-spec =
-    tie.close
-    (tie.spec
-    Inv-loop
-    μ-loop
-    loop-holds
-    shared-slice-read-b
-    in-charset-requires
-    shared-slice-read-inside
-    add-i
-    loop-less
-    loop-again
-    returns)
+    tie.close (tie.spec Inv-loop μ-loop loop-holds shared-slice-read-b (λ c κs. search needs) shared-slice-read-inside add-i loop-less loop-again returns)

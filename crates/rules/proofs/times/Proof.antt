@@ -1,12 +1,11 @@
 -- The invariant: so many of the keys passed are the one asked for. The measure is the places that are left.
-use borrow.Author.Needs.{needs}
 use Prim.Native.Nat.{_≤_, _-_}
 use native.Mathlib.Numerals.{add-one}
 use native.Mathlib.Omega.{arith}
 use mathlib.Core.Path.{_≡_, refl}
 use lib.Dec.{eqb}
 use lib.ListN.{getD}
-use mathlib.Core.Bool.{cond}
+use borrow.Author.Needs.{needs}
 use Rattle.rules.specs.Keys.{howMany}
 use Rattle.rules.proofs.KeyLaws.{few}
 use Rattle.rules.proofs.times.Statement.{statement}
@@ -22,20 +21,8 @@ loop-holds : tie.Need-loop-holds Inv-loop μ-loop
 unfolding howMany
 loop-holds c = (omega arith, refl)
 
-mul-one-more : tie.Need-mul-one-more Inv-loop μ-loop
-mul-one-more c = search needs
-
-array-read-one-more : tie.Need-array-read-one-more Inv-loop μ-loop
-array-read-one-more c = search needs
-
 one-more-requires : tie.Need-one-more-requires Inv-loop μ-loop
 one-more-requires c κs = omega (arith, few (λ i. eqb (getD (c .before .before .args .t1) i 0) (c .before .before .args .own)) (c .before .loop .i))
-
-add-i : tie.Need-add-i Inv-loop μ-loop
-add-i c = search needs
-
-loop-less : tie.Need-loop-less Inv-loop μ-loop
-loop-less c = search needs
 
 loop-again : tie.Need-loop-again Inv-loop μ-loop
 unfolding howMany
@@ -46,15 +33,4 @@ returns c = let e : c .before .loop .i ≡ c .before .before .args .count = omeg
 
 pub times-spec : {M : Type 1} → statement M
 times-spec =
-    tie.close
-    (tie.spec
-    Inv-loop
-    μ-loop
-    loop-holds
-    mul-one-more
-    array-read-one-more
-    one-more-requires
-    add-i
-    loop-less
-    loop-again
-    returns)
+    tie.close (tie.spec Inv-loop μ-loop loop-holds (λ c. search needs) (λ c. search needs) one-more-requires (λ c. search needs) (λ c. search needs) loop-again returns)
