@@ -27,21 +27,24 @@ module _ (sheet : Sheet) (j : ℕ) (h : j < 32) where
   unfolding sensorsFound
   found-kind = getD-tabulate _ 32 j 0 h
 
-  -- and so are its options
+  -- so is the number of its options
   found-options : getD (sensorsFound sheet .options) j 0 ≡ sensorOf sheet j .«option_count»
   unfolding sensorsFound
   found-options = getD-tabulate _ 32 j 0 h
 
--- the readings
+-- the readings fit just where they are in range
 pub readings-found : (sheet : Sheet) (clock : ℕ) (rs : List Stored)
     → allBelow (storedFits (sheet .count) clock (sensorsFound sheet) rs) 32 ≡ allBelow (storedOkAt sheet clock rs) 32
 unfolding storedFits storedOkAt storedOk
 readings-found sheet clock rs = below-same _ _ 32 (λ j h. rw (found-kind sheet j h, found-options sheet j h))
 
--- the subscriptions
+-- the subscriptions fit just where they are in range
 pub pairs-found : (s : State)
     → allBelow (pairFits (s .sheet .count) (s .clock) (sensorsFound (s .sheet)) (s .clients) (s .subscriptions)) 256 ≡ allBelow (pairOkAt s) 256
 unfolding pairFits pairOkAt reportedFits pairReported
 pairs-found s = below-same _ _ 256 (λ p h.
-    rw (found-kind (s .sheet) (p % 32) (omega arith), found-options (s .sheet) (p % 32) (omega arith),
-    and-assoc (connected s (p / 32)) (ltb (p % 32) (s .sheet .count)) (pairReported (s .clock) (sensorOf (s .sheet) (p % 32)) (pairAt s p))))
+    rw (
+      found-kind (s .sheet) (p % 32) (omega arith),
+      found-options (s .sheet) (p % 32) (omega arith),
+      and-assoc (connected s (p / 32)) (ltb (p % 32) (s .sheet .count)) (pairReported (s .clock) (sensorOf (s .sheet) (p % 32)) (pairAt s p)),
+    ))

@@ -29,6 +29,7 @@ fresh-in-range sheet = test-same _ _
     (λ h. range-of (fresh sheet) (fresh-range sheet h))
 
 module _ (s : List ℕ) (r : SheetTaken) (read : sheetOf s r ≡ sheetAt s) where
+  -- bytes that are no sheet are refused
   pub open-broken : r .taken ≡ false → opened s ≡ refused
   unfolding opened
   open-broken t = ap accepted (sym (rw t at read))
@@ -38,9 +39,11 @@ module _ (s : List ℕ) (r : SheetTaken) (read : sheetOf s r ≡ sheetAt s) wher
     abbrev good : Bool
     good = leb (length s) (r .behind .at) && kept
 
+    -- what opening then answers
     abbrev first : Opened
     first = record { number = 0; state = state }
 
+    -- else that test decides
     by-rest : opened s ≡ cond good first refused
     unfolding opened
     by-rest = ap accepted (sym (rw t at read)) ∙ go (drop (r .behind .at) s) (length-drop (r .behind .at) s)
@@ -49,8 +52,10 @@ module _ (s : List ℕ) (r : SheetTaken) (read : sheetOf s r ≡ sheetAt s) wher
         go [] l = rw (k, new, fresh-in-range (r .sheet), le-leb (length s) (r .behind .at) (omega arith))
         go (b ∷ rest) l = rw (lt-leb (length s) (r .behind .at) (omega arith))
 
+    -- it holds
     pub open-good : good ≡ true → opened s ≡ first
     open-good h = by-rest ∙ cond-true good first refused h
 
+    -- it fails
     pub open-faulty : good ≡ false → opened s ≡ refused
     open-faulty h = by-rest ∙ cond-false good first refused h

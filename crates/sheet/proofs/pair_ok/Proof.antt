@@ -1,4 +1,4 @@
--- With a report no pair is without one; without a report it has none.
+-- A report settles which of the two tests can hold; the calls say the rest of it.
 use borrow.Author.Needs.{needs}
 use Rattle.machine.specs.Range.{pairNone}
 use Rattle.sheet.specs.Fits.{reportedFits}

@@ -1,4 +1,4 @@
--- The invariant: the subscriptions passed are in range. The measure is the places that are left.
+-- The invariant: the subscriptions passed fit. The measure is the places that are left.
 use Prim.Native.Nat.{_≤_, _-_}
 use mathlib.Core.Bool.{true}
 use mathlib.Core.Path.{_≡_, refl}

@@ -1,4 +1,4 @@
--- The invariant: the readings passed are in range. The measure is the places that are left.
+-- The invariant: the readings passed fit. The measure is the places that are left.
 use Prim.Native.Nat.{_≤_, _-_}
 use mathlib.Core.Bool.{true}
 use mathlib.Core.Path.{_≡_, refl}
@@ -6,7 +6,6 @@ use native.Mathlib.Numerals.{add-one}
 use native.Mathlib.Omega.{arith}
 use borrow.Author.Needs.{needs}
 use Rattle.machine.specs.Places.{allBelow}
-use Rattle.rules.specs.declared.Sensors.{Sensors}
 use Rattle.sheet.specs.Fits.{storedFits}
 use Rattle.sheet.proofs.readings_ok.Statement.{statement}
 use Rattle.sheet.proofs.readings_ok.Tie as tie
