@@ -7,15 +7,17 @@ use machine::State;
 use machine::Stored;
 use machine::Strategy;
 use machine::Subscription;
-use rules::Charset;
+use rules::Sensors;
 use value::Sample;
 ghost use mathlib.Core.Path.{_≡_};
-ghost use mathlib.Core.Bool.{cond};
+ghost use mathlib.Core.Bool.{cond, _&&_, _||_};
+ghost use lib.Dec.{leb};
 ghost use Rattle.value.specs.Reading as readings;
 ghost use Rattle.machine.specs.Places.{allBelow};
 ghost use Rattle.machine.specs.State as states;
 ghost use Rattle.machine.specs.Opening as opening;
 ghost use Rattle.machine.specs.Range as ranges;
+ghost use Rattle.sheet.specs.Fits as checks;
 
 // What stands at a place without a sensor.
 fn no_stored() -> Stored
@@ -100,7 +102,8 @@ fn refused() -> Opened
     }
 }
 
-// Number 0 and the fresh state of a sheet, or 4 and the blank state where the bytes are no sheet.
+// Number 0 and the fresh state of a sheet, or 4 and the blank state where the bytes are no sheet. A fresh state is in range just where its
+// sheet keeps its rules, so the check of a state is the check of a sheet too.
 pub fn open(sheet: &[u8]) -> Opened
     ensures { λ r. ⌜ r ≡ opening.opened (now (sheet .entry)) ⌝ }
 {
@@ -111,11 +114,11 @@ pub fn open(sheet: &[u8]) -> Opened
     let whole = r.sheet;
     let last = r.behind;
     let ended = sheet.len() <= last.at;
-    let kept = rules::sheet_ok(whole);
-    if ended & kept {
+    let state = fresh_state(whole);
+    if ended & in_range(state) {
         return Opened {
             number: 0,
-            state: fresh_state(whole),
+            state: state,
         };
     }
     refused()
@@ -134,16 +137,14 @@ fn number_fits(kind: u8, options: u8, n: u64) -> bool
     }
 }
 
-// A sample that a sensor can have.
-fn sample_ok(sensor: Sensor, x: Sample) -> bool
-    ensures { λ r. ⌜ r ≡ ranges.sampleOk sensor x ⌝ }
+// A sample that a sensor of a type can have.
+fn sample_ok(kind: u8, options: u8, x: Sample) -> bool
+    ensures { λ r. ⌜ r ≡ readings.sampleFits kind options x ⌝ }
 {
-    let fits = number_fits(sensor.kind, sensor.option_count, x.number);
-    let zero = value::zero_of(sensor.kind);
     if x.kind == 1 {
-        return fits;
+        return number_fits(kind, options, x.number);
     }
-    (x.kind <= 4) & (x.number == zero)
+    (x.kind <= 4) & (x.number == value::zero_of(kind))
 }
 
 fn sample_none(x: Sample) -> bool
@@ -152,42 +153,30 @@ fn sample_none(x: Sample) -> bool
     (x.kind == 0) & (x.number == 0)
 }
 
-// The reading of a sensor, or what stands at a place without one.
-fn stored_ok(there: bool, clock: u64, sensor: Sensor, r: Stored) -> bool
-    ensures { λ q. ⌜ q ≡ cond there (ranges.storedOk clock sensor r) (ranges.storedNone r) ⌝ }
+// The reading of a sensor of a type, or what stands at a place without one.
+fn stored_ok(there: bool, clock: u64, kind: u8, options: u8, r: Stored) -> bool
+    ensures { λ q. ⌜ q ≡ cond there (readings.sampleFits kind options (r .sample) && leb (r .time) clock) (ranges.storedNone r) ⌝ }
 {
-    let fits = sample_ok(sensor, r.sample);
-    let none = sample_none(r.sample);
     if there {
-        return fits & (r.time <= clock);
+        return sample_ok(kind, options, r.sample) & (r.time <= clock);
     }
-    none & (r.time == 0)
+    sample_none(r.sample) & (r.time == 0)
 }
 
-fn readings_ok(sheet: Sheet, clock: u64, readings: [Stored; 32]) -> bool
-    ensures { λ r. ⌜ r ≡ allBelow (ranges.storedOkAt sheet clock readings) 32 ⌝ }
+fn readings_ok(count: u8, clock: u64, sensors: Sensors, stored: [Stored; 32]) -> bool
+    ensures { λ r. ⌜ r ≡ allBelow (checks.storedFits count clock sensors stored) 32 ⌝ }
 {
-    let count = sheet.count as usize;
+    let n = count as usize;
+    let kinds = sensors.kinds;
+    let options = sensors.options;
     let mut ok = true;
     let mut j: usize = 0;
     while j < 32 {
-        let sensor = sheet.sensors[j];
-        let stored = readings[j];
-        ok = ok & stored_ok(j < count, clock, sensor, stored);
+        let held = stored[j];
+        ok = ok & stored_ok(j < n, clock, kinds[j], options[j], held);
         j += 1;
     }
     ok
-}
-
-// A client's address, or none.
-fn client_ok(client: Client) -> bool
-    ensures { λ r. ⌜ r ≡ ranges.clientOk client ⌝ }
-{
-    let address = client.address;
-    if client.connected {
-        return rules::text_ok(&address, client.address_len, 1, 48, Charset::Graphic);
-    }
-    rules::text_ok(&address, client.address_len, 0, 0, Charset::Graphic)
 }
 
 fn clients_ok(clients: [Client; 8]) -> bool
@@ -197,7 +186,7 @@ fn clients_ok(clients: [Client; 8]) -> bool
     let mut c: usize = 0;
     while c < 8 {
         let client = clients[c];
-        ok = ok & client_ok(client);
+        ok = ok & rules::client_ok(client);
         c += 1;
     }
     ok
@@ -254,65 +243,70 @@ fn strategy_ok(kind: u8, strategy: Strategy) -> bool
     }
 }
 
-// A subscription without a report.
-fn pair_none(p: Subscription) -> bool
-    ensures { λ r. ⌜ r ≡ ranges.pairNone p ⌝ }
+// A subscription without a report, or with one where its client and its sensor are there.
+fn pair_ok(there: bool, clock: u64, kind: u8, options: u8, p: Subscription) -> bool
+    ensures { λ r. ⌜ r ≡ (ranges.pairNone p || (there && checks.reportedFits clock kind options p)) ⌝ }
 {
     let strategy = p.strategy;
-    let none = machine::is_none(strategy);
-    let empty = sample_none(p.sample);
-    !p.reported & (none & (empty & (p.time == 0)))
+    if p.reported {
+        let held = sample_ok(kind, options, p.sample);
+        return there & (strategy_ok(kind, strategy) & (held & (p.time <= clock)));
+    }
+    machine::is_none(strategy) & (sample_none(p.sample) & (p.time == 0))
 }
 
-// A subscription with a report.
-fn pair_reported(clock: u64, sensor: Sensor, p: Subscription) -> bool
-    ensures { λ r. ⌜ r ≡ ranges.pairReported clock sensor p ⌝ }
+fn pairs_ok(
+    count: u8,
+    clock: u64,
+    sensors: Sensors,
+    clients: [Client; 8],
+    pairs: [Subscription; 256],
+) -> bool
+    ensures { λ r. ⌜ r ≡ allBelow (checks.pairFits count clock sensors clients pairs) 256 ⌝ }
 {
-    let strategy = p.strategy;
-    let suits = strategy_ok(sensor.kind, strategy);
-    let held = sample_ok(sensor, p.sample);
-    p.reported & (suits & (held & (p.time <= clock)))
-}
-
-fn pairs_ok(s: State) -> bool
-    ensures { λ r. ⌜ r ≡ allBelow (ranges.pairOkAt s) 256 ⌝ }
-{
-    let sheet = s.sheet;
-    let count = sheet.count as usize;
+    let n = count as usize;
+    let kinds = sensors.kinds;
+    let options = sensors.options;
     let mut ok = true;
     let mut p: usize = 0;
     while p < 256 {
         let c = p / 32;
         let j = p % 32;
-        let client = s.clients[c];
-        let sensor = sheet.sensors[j];
-        let pair = s.subscriptions[p];
-        let none = pair_none(pair);
-        let reported = pair_reported(s.clock, sensor, pair);
-        ok = ok & (none | (client.connected & ((j < count) & reported)));
+        let client = clients[c];
+        let pair = pairs[p];
+        ok = ok
+            & pair_ok(
+                client.connected & (j < n),
+                clock,
+                kinds[j],
+                options[j],
+                pair,
+            );
         p += 1;
     }
     ok
 }
 
-// Whether every field of a state is within what document 01 allows: where not, a call is declined with number 1.
+// Whether every field of a state is within what document 01 allows: where not, a call is declined with number 1. The parts of the state are
+// taken apart once; of the sheet one pass tells what the others ask of its sensors.
 pub fn in_range(s: State) -> bool
     ensures { λ r. ⌜ r ≡ ranges.inRange s ⌝ }
 {
     let sheet = s.sheet;
     let stored = s.readings;
     let connections = s.clients;
+    let subscriptions = s.subscriptions;
     let titles = rules::titles_ok(sheet);
     let untitled = rules::titles_none(sheet);
-    let sensors = rules::sensors_ok(sheet);
+    let sensors = rules::sensors_found(sheet);
     let alone = no_clients(connections);
     // what, in range, only the blank state has
     let blank = untitled
         & ((sheet.count == 0) & (alone & (s.halted & ((s.level == 0) & (s.clock == 0)))));
-    let readings = readings_ok(sheet, s.clock, stored);
+    let readings = readings_ok(sheet.count, s.clock, sensors, stored);
     let clients = clients_ok(connections);
-    let pairs = pairs_ok(s);
+    let pairs = pairs_ok(sheet.count, s.clock, sensors, connections, subscriptions);
     (titles | blank)
-        & (sensors
+        & (sensors.ok
             & ((s.clock <= 9999999999999) & ((s.level <= 7) & (readings & (clients & pairs)))))
 }

@@ -1,6 +1,8 @@
 -- What each pass says, beside the tests of the clock, the level and the blank state.
 use borrow.Author.Needs.{needs}
 use Rattle.machine.specs.Range.{isBlank, inRange}
+use Rattle.rules.specs.Found.{sensorsFound}
+use Rattle.sheet.proofs.FitsLaws.{readings-found, pairs-found}
 use Rattle.sheet.proofs.in_range.Statement.{statement}
 use Rattle.sheet.proofs.in_range.Tie as tie
 
@@ -10,8 +12,8 @@ titles-ok-requires c κs = search needs
 titles-none-requires : tie.Need-titles-none-requires
 titles-none-requires c κs = search needs
 
-sensors-ok-requires : tie.Need-sensors-ok-requires
-sensors-ok-requires c κs = search needs
+sensors-found-requires : tie.Need-sensors-found-requires
+sensors-found-requires c κs = search needs
 
 no-clients-requires : tie.Need-no-clients-requires
 no-clients-requires c κs = search needs
@@ -26,9 +28,12 @@ pairs-ok-requires : tie.Need-pairs-ok-requires
 pairs-ok-requires c κs = search needs
 
 returns : tie.Need-returns
-unfolding inRange isBlank
+unfolding inRange isBlank sensorsFound
 returns c =
-    rw (c .before .before .before .before .before .before .before .before .before .before .before .before .titles-ok .ensures, c .before .before .before .before .before .before .before .before .before .before .before .titles-none .ensures, c .before .before .before .before .before .before .before .before .before .before .sensors-ok .ensures, c .before .before .before .before .before .before .before .before .before .no-clients .ensures, c .before .before .before .before .readings-ok .ensures, c .before .before .before .clients-ok .ensures, c .before .before .pairs-ok .ensures)
+    let p = c .before .before .before in
+    let a = p .before .before .before .before .before .before .before in
+    let s = a .before .before .before .before .before .before .before .before .args .s in
+    rw (a .before .before .before .titles-ok .ensures, a .before .before .titles-none .ensures, a .no-clients .ensures, p .before .before .readings-ok .ensures, p .before .clients-ok .ensures, p .pairs-ok .ensures, a .before .sensors-found .ensures, readings-found (s .sheet) (s .clock) (s .readings), pairs-found s)
 
 pub in-range-spec : {M : Type 1} → statement M
 in-range-spec =
@@ -36,7 +41,7 @@ in-range-spec =
     (tie.spec
     titles-ok-requires
     titles-none-requires
-    sensors-ok-requires
+    sensors-found-requires
     no-clients-requires
     readings-ok-requires
     clients-ok-requires

@@ -1,23 +1,23 @@
 -- The test of the kind chooses the row of `sampleFits`; `number_fits` and `zero_of` say the rest.
-use borrow.Author.Needs.{needs}
 use borrow.Author.Tests.{eq-eqb, ne-eqb}
 use Rattle.value.specs.Reading.{sampleFits}
+use borrow.Author.Needs.{needs}
 use Rattle.sheet.proofs.sample_ok.Statement.{statement}
 use Rattle.sheet.proofs.sample_ok.Tie as tie
 
 number-fits-requires : tie.Need-number-fits-requires
 number-fits-requires c κs = search needs
 
+returns : tie.Need-returns
+unfolding sampleFits
+returns c = rw (eq-eqb _ _ (c .before .if1 .taken)) (c .number-fits .ensures)
+
 zero-of-requires : tie.Need-zero-of-requires
 zero-of-requires c κs = search needs
 
-returns : tie.Need-returns
-unfolding sampleFits
-returns c = rw (eq-eqb _ _ (c .if1 .taken)) (c .before .before .before .number-fits .ensures)
-
 returns-2 : tie.Need-returns-2
 unfolding sampleFits
-returns-2 c = rw (ne-eqb _ _ (c .before .before .if1 .left), c .before .before .before .before .zero-of .ensures)
+returns-2 c = rw (ne-eqb _ _ (c .before .before .before .if1 .left), c .before .zero-of .ensures)
 
 pub sample-ok-spec : {M : Type 1} → statement M
-sample-ok-spec = tie.close (tie.spec number-fits-requires zero-of-requires returns returns-2)
+sample-ok-spec = tie.close (tie.spec number-fits-requires returns zero-of-requires returns-2)

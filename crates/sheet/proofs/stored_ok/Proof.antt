@@ -1,22 +1,21 @@
 -- Where a sensor is there, `sample_ok` and the time; else `sample_none` and time 0.
 use borrow.Author.Needs.{needs}
-use Rattle.machine.specs.Range.{storedOk, storedNone}
+use Rattle.machine.specs.Range.{storedNone}
 use Rattle.sheet.proofs.stored_ok.Statement.{statement}
 use Rattle.sheet.proofs.stored_ok.Tie as tie
 
 sample-ok-requires : tie.Need-sample-ok-requires
 sample-ok-requires c κs = search needs
 
+returns : tie.Need-returns
+returns c = cc
+
 sample-none-requires : tie.Need-sample-none-requires
 sample-none-requires c κs = search needs
 
-returns : tie.Need-returns
-unfolding storedOk
-returns c = rw (c .before .if1 .taken, c .before .before .before .sample-ok .ensures)
-
 returns-2 : tie.Need-returns-2
 unfolding storedNone
-returns-2 c = rw (c .before .if1 .left, c .before .before .sample-none .ensures)
+returns-2 c = cc
 
 pub stored-ok-spec : {M : Type 1} → statement M
-stored-ok-spec = tie.close (tie.spec sample-ok-requires sample-none-requires returns returns-2)
+stored-ok-spec = tie.close (tie.spec sample-ok-requires returns sample-none-requires returns-2)
