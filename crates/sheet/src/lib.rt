@@ -1,7 +1,6 @@
 //! Opening a sheet, and the check of a state that every other call begins with.
 use machine::Client;
 use machine::Opened;
-use machine::Sensor;
 use machine::Sheet;
 use machine::State;
 use machine::Stored;
