@@ -1,120 +1,118 @@
--- The invariant: the visit has reached p, what the subscriptions before it send was sent. The measure is the places that are left.
-use Prim.Native.Nat.{_≤_, _<_, _-_}
-use native.Mathlib.Numerals.{add-one}
-use native.Mathlib.Omega.{arith}
-use mathlib.Core.Path.{_≡_, refl, _∙_}
-use lib.ListN.{length}
-use borrow.Author.Needs.{needs}
-use Rattle.output.specs.Output.{output}
-use Rattle.message.specs.Delivery.{Sent}
-use Rattle.message.proofs.DeliveryLaws.{and, none-sent, kept}
-use Rattle.machine.specs.Places.{tabulate, gather}
-use Rattle.machine.specs.Report.{pairAfter, pairSends}
-use Rattle.machine.proofs.ArrayLaws.{subscriptions-many}
-use Rattle.machine.proofs.StoreLaws.{filled-all}
-use Rattle.sampling.proofs.VisitLaws.{Reached, pair-due, pair-left, pair-sent, pair-stored}
 use Rattle.sampling.proofs.visit.Statement.{statement}
 use Rattle.sampling.proofs.visit.Tie as tie
+use Rattle.sampling.proofs.visit.Reads as reads
+use Rattle.sampling.proofs.visit.Lts as lts
+use Rattle.sampling.proofs.after_report.Reads as after-report-reads
+use Rattle.sampling.proofs.by_reading.Reads as by-reading-reads
+use Rattle.sampling.proofs.can_report.Reads as can-report-reads
+use Rattle.sampling.proofs.deliver_report.Reads as deliver-report-reads
+use Rattle.sampling.proofs.first_place.Reads as first-place-reads
+use Rattle.sampling.proofs.is_due.Reads as is-due-reads
+use Rattle.sampling.proofs.next_place.Reads as next-place-reads
 
 abbrev Inv-loop : tie.InvT-loop
-Inv-loop cause out₀ s₀ sheet count reading at₀ p₀ out s at p = (p ≤ 256) × (Reached s₀ cause p s × Sent (output out₀ 0) (gather (pairSends (s₀ .sheet) s₀ cause) p) (output out at))
+Inv-loop number s cause clock out₀ readings sheet clients pairs₀ count reading at₀ p₀ out pairs at p =
+    ?
 
 abbrev μ-loop : tie.MeasureT-loop
-μ-loop cause out₀ s₀ sheet count reading at₀ p₀ out s at p = 256 - p
+μ-loop number s cause clock out₀ readings sheet clients pairs₀ count reading at₀ p₀ out pairs at p =
+    ?
 
+-- src/lib.rt:294:17
 cast-count : tie.Need-cast-count Inv-loop μ-loop
-cast-count c = search needs
+cast-count c = ?
 
+-- src/lib.rt:295:9
 by-reading-requires : tie.Need-by-reading-requires Inv-loop μ-loop
-by-reading-requires c κs = search needs
+by-reading-requires c κs = ?
 
+-- src/lib.rt:297:9
+first-place-requires : tie.Need-first-place-requires Inv-loop μ-loop
+first-place-requires c κs = ?
+
+-- src/lib.rt:298:5
 loop-holds : tie.Need-loop-holds Inv-loop μ-loop
-unfolding tabulate gather
-loop-holds c = (omega arith, (refl, none-sent))
+loop-holds c = ?
 
+-- src/lib.rt:301:22
 mul-client : tie.Need-mul-client Inv-loop μ-loop
-mul-client c = search needs
+mul-client c = ?
 
-element-copy-out-client : tie.Need-element-copy-out-client Inv-loop μ-loop
-element-copy-out-client c = search needs
+-- src/lib.rt:301:22
+array-copy-out-client : tie.Need-array-copy-out-client Inv-loop μ-loop
+array-copy-out-client c = ?
 
-mul-sensor : tie.Need-mul-sensor Inv-loop μ-loop
-mul-sensor c = search needs
-
-element-copy-out-sensor : tie.Need-element-copy-out-sensor Inv-loop μ-loop
-element-copy-out-sensor c = search needs
-
-mul-stored : tie.Need-mul-stored Inv-loop μ-loop
-mul-stored c = search needs
-
-element-copy-out-stored : tie.Need-element-copy-out-stored Inv-loop μ-loop
-element-copy-out-stored c = search needs
-
+-- src/lib.rt:302:20
 mul-pair : tie.Need-mul-pair Inv-loop μ-loop
-mul-pair c = search needs
+mul-pair c = ?
 
-element-copy-out-pair : tie.Need-element-copy-out-pair Inv-loop μ-loop
-element-copy-out-pair c = search needs
+-- src/lib.rt:302:20
+array-copy-out-pair : tie.Need-array-copy-out-pair Inv-loop μ-loop
+array-copy-out-pair c = ?
 
-does-concern-requires : tie.Need-does-concern-requires Inv-loop μ-loop
-does-concern-requires c κs = search needs
+-- src/lib.rt:305:20
+can-report-requires : tie.Need-can-report-requires Inv-loop μ-loop
+can-report-requires c κs = ?
 
-does-report-requires : tie.Need-does-report-requires Inv-loop μ-loop
-does-report-requires c κs = search needs
+-- src/lib.rt:306:26
+mul-sensor : tie.Need-mul-sensor Inv-loop μ-loop
+mul-sensor c = ?
 
-cast-report-if : tie.Need-cast-report-if Inv-loop μ-loop
-cast-report-if c = search needs
+-- src/lib.rt:306:26
+element-copy-out-sensor : tie.Need-element-copy-out-sensor Inv-loop μ-loop
+element-copy-out-sensor c = ?
 
-report-if-requires : tie.Need-report-if-requires Inv-loop μ-loop
-report-if-requires c κs = search needs
+-- src/lib.rt:307:26
+mul-stored : tie.Need-mul-stored Inv-loop μ-loop
+mul-stored c = ?
 
-after-turn-requires : tie.Need-after-turn-requires Inv-loop μ-loop
-after-turn-requires c κs = search needs
+-- src/lib.rt:307:26
+array-copy-out-stored : tie.Need-array-copy-out-stored Inv-loop μ-loop
+array-copy-out-stored c = ?
 
-mul-t22 : tie.Need-mul-t22 Inv-loop μ-loop
-mul-t22 c = search needs
+-- src/lib.rt:309:16
+is-due-requires : tie.Need-is-due-requires Inv-loop μ-loop
+is-due-requires c κs = ?
 
-element-set-from-s : tie.Need-element-set-from-s Inv-loop μ-loop
-element-set-from-s c = search needs
+-- src/lib.rt:310:46
+cast-deliver-report : tie.Need-cast-deliver-report Inv-loop μ-loop
+cast-deliver-report c = ?
 
-add-p : tie.Need-add-p Inv-loop μ-loop
-add-p c = search needs
+-- src/lib.rt:310:17
+deliver-report-requires : tie.Need-deliver-report-requires Inv-loop μ-loop
+deliver-report-requires c κs = ?
 
+-- src/lib.rt:311:28
+after-report-requires : tie.Need-after-report-requires Inv-loop μ-loop
+after-report-requires c κs = ?
+
+-- src/lib.rt:311:17
+mul-pairs : tie.Need-mul-pairs Inv-loop μ-loop
+mul-pairs c = ?
+
+-- src/lib.rt:311:17
+array-set-from-pairs : tie.Need-array-set-from-pairs Inv-loop μ-loop
+array-set-from-pairs c = ?
+
+-- src/lib.rt:314:9
+next-place-requires : tie.Need-next-place-requires Inv-loop μ-loop
+next-place-requires c κs = ?
+
+-- src/lib.rt:298:5
 loop-less : tie.Need-loop-less Inv-loop μ-loop
-loop-less c = search needs
+loop-less c = ?
 
+-- src/lib.rt:298:5
 loop-again : tie.Need-loop-again Inv-loop μ-loop
-unfolding gather
-loop-again c =
-    let turn = c .before .before .before .before .before .before .before .before .before .before .before .before .before .before .loop in
-    let start = c .before .before .before .before .before .before .before .before .before .before .before .before .before .before .before .before .before .before in
-    let s₀ = start .args .t1 in
-    let cause = start .args .cause in
-    let reached = turn .inv .1 .0 in
-    let test : turn .p < 256 = c .before .before .before .before .before .before .before .before .before .before .before .before .before .loop-test .taken in
-    let below : turn .p < length (s₀ .subscriptions) = omega (arith, subscriptions-many (start .args .t1) _ (start .good .0)) in
-    let due = pair-due s₀ (turn .s) cause (turn .p) reached below (c .before .before .before .before .before .before .before .before .before .before .before .before .before .before .before .by-reading .ensures) (c .before .before .before .before .before .before .before .does-concern .ensures) (c .before .before .before .before .before .does-report .ensures) in (
-      omega arith,
-      (
-        pair-stored s₀ (turn .s) cause (turn .p) reached below (pair-left s₀ (turn .s) cause (turn .p) reached below due (c .after-turn .ensures)),
-        rw add-one (and (turn .inv .1 .1) (pair-sent s₀ (turn .s) cause (turn .p) reached below due (c .before .before .before .report-if .ensures))),
-      ),
-    )
+loop-again c = ?
 
+-- src/lib.rt:279:1
 same-length : tie.Need-same-length Inv-loop μ-loop
-same-length c = kept (c .before .loop .inv .1 .1)
+same-length c = ?
 
+-- src/lib.rt:279:1
 returns : tie.Need-returns Inv-loop μ-loop
-returns c =
-    let inv = c .before .loop .inv .1 in
-    let start = c .before .before .before .before .before in
-    let end : c .before .loop .p ≡ 256 = omega arith in (
-      refl,
-      (
-        inv .0 ∙ rw (end, filled-all (pairAfter (start .args .t1 .sheet) (start .args .t1) (start .args .cause)) (start .args .t1 .subscriptions) 256 (subscriptions-many (start .args .t1) _ (start .good .0))),
-        rw end at (inv .1),
-      ),
-    )
+returns c = ?
 
 pub visit-spec : {M : Type 1} → statement M
 visit-spec =
@@ -124,23 +122,24 @@ visit-spec =
     μ-loop
     cast-count
     by-reading-requires
+    first-place-requires
     loop-holds
     mul-client
-    element-copy-out-client
+    array-copy-out-client
+    mul-pair
+    array-copy-out-pair
+    can-report-requires
     mul-sensor
     element-copy-out-sensor
     mul-stored
-    element-copy-out-stored
-    mul-pair
-    element-copy-out-pair
-    does-concern-requires
-    does-report-requires
-    cast-report-if
-    report-if-requires
-    after-turn-requires
-    mul-t22
-    element-set-from-s
-    add-p
+    array-copy-out-stored
+    is-due-requires
+    cast-deliver-report
+    deliver-report-requires
+    after-report-requires
+    mul-pairs
+    array-set-from-pairs
+    next-place-requires
     loop-less
     loop-again
     same-length
