@@ -1,5 +1,5 @@
 -- A visit, from place to place: what the places that it has passed leave and send, and that none reports that it jumps over.
-use Prim.Native.Nat.{ℕ, zero, suc, _+_, _/_, _%_, _-_, _<_, _≤_}
+use Prim.Native.Nat.{ℕ, zero, suc, _+_, _/_, _%_, _-_, _<_, _≤_, min}
 use native.Mathlib.Omega.{arith}
 use native.Mathlib.Numerals.{add-one}
 use mathlib.Core.Path.{_≡_, refl, sym, ap, _∙_, subst}
@@ -23,7 +23,8 @@ use Rattle.machine.specs.Messages.{reportOf}
 use Rattle.machine.specs.Report.{Work, byReading, concerns, due, dueAt, reported, pairAfter, pairSends, visit}
 use Rattle.machine.proofs.StoreLaws.{filled-one, filled-all, unwritten}
 use Rattle.machine.proofs.TestLaws.{and-true, and-in}
-use Rattle.sampling.specs.Visits.{firstOf, firstPlace, nextPlace}
+use Rattle.sampling.specs.Visits.{canReport, firstOf, nextPlace}
+use Rattle.sampling.proofs.TurnLaws.{cannot, asked}
 
 -- what holds at m and goes from each place before n to the next holds at n
 up : (P : ℕ → Type 0) (m n : ℕ) → m ≤ n → ((q : ℕ) → m ≤ q → q < n → P q → P (suc q)) → P m → P n
@@ -66,36 +67,13 @@ module _ {visits : Bool} {s : State} {cause : Cause} {start end : Output} {pairs
   unfolding tabulate gather
   one-silent n l e h = record {
     left = h .left ∙ rw (drop-cons (s .subscriptions) n noSubscription (omega arith), e) (sym (append-assoc (tabulate (leaves visits s cause) n) (pairAt s n ∷ []) (drop (suc n) (s .subscriptions))));
-    sent = as-sent (h .sent) (rw (e) (sym (append-nil (gather (sends visits s cause) n))))
+    sent = as-sent (h .sent) (rw (e) (sym (append-nil (gather (sends visits s cause) n))));
   }
 
   -- places that do not report
   pub silent : (m n : ℕ) → m ≤ n → n ≤ 256 → ((q : ℕ) → m ≤ q → q < n → reports visits s cause q ≡ false)
       → Passed visits s cause start m pairs end → Passed visits s cause start n pairs end
   silent m n k l none = up (λ n. Passed visits s cause start n pairs end) m n k (λ q h i. one-silent q (omega arith) (none q h i))
-
-  -- a place that reports
-  pub one-reports : (p : ℕ) {x : Subscription} {end′ : Output} → p < 256 → reports visits s cause p ≡ true
-      → x ≡ reported (s .clock) (present s (p % 32)) (pairAt s p) → Sent end (to (p / 32) (reportOf (s .sheet) s (p % 32)) ∷ []) end′
-      → Passed visits s cause start p pairs end → Passed visits s cause start (p + 1) (set pairs p x) end′
-  unfolding gather
-  one-reports p {x} l e f g h =
-      let w : x ≡ leaves visits s cause p = rw e f in record {
-        left = rw (w, h .left) (filled-one (leaves visits s cause) (s .subscriptions) p (omega arith));
-        sent = rw (add-one, e) (and (h .sent) g)
-      }
-
-  -- the subscription at the place that the visit has come to is as it was
-  pub pair-same : (p : ℕ) → p < 256 → Passed visits s cause start p pairs end → getD pairs p noSubscription ≡ pairAt s p
-  pair-same p l h = rw (h .left) (unwritten (leaves visits s cause) (s .subscriptions) p noSubscription (omega arith))
-
--- whether the place reports that the visit has come to
-pub turn : (visits : Bool) (s : State) (cause : Cause) (p : ℕ) → (visits && concerns cause (p % 32)) ≡ true
-    → reports visits s cause p ≡ (there s p && due (byReading cause) (s .clock) (sensorOf (s .sheet) (p % 32)) (present s (p % 32)) (pairAt s p))
-unfolding dueAt
-turn visits s cause p h =
-    let q = and-true visits (concerns cause (p % 32)) h in
-    rw (q .0, q .1, and-assoc)
 
 -- a test that cannot hold
 refuted : (b : Bool) → (b ≡ true → ⊥) → b ≡ false
@@ -119,7 +97,7 @@ module _ (visits : Bool) (s : State) where
       (due (byReading cause) (s .clock) (sensorOf (s .sheet) (p % 32)) (present s (p % 32)) (pairAt s p)) h
 
   -- no place before the first reports
-  pub first-silent : (cause : Cause) (q : ℕ) → q < 256 → q < cond visits (firstOf cause) 256 → reports visits s cause q ≡ false
+  first-silent : (cause : Cause) (q : ℕ) → q < 256 → q < cond visits (firstOf cause) 256 → reports visits s cause q ≡ false
   first-silent cause q l k = refuted (reports visits s cause q) (λ r.
       let a = and-true visits (concerns cause (q % 32)) (reports-there cause q r .0) in
       go cause (rw (a .0) at k) (a .1))
@@ -132,7 +110,7 @@ module _ (visits : Bool) (s : State) where
           omega arith
 
   -- no place between one of the visit and the next reports
-  pub next-silent : (cause : Cause) (p q : ℕ) → (visits && concerns cause (p % 32)) ≡ true → p < q → q < nextPlace cause (there s p) p → reports visits s cause q ≡ false
+  next-silent : (cause : Cause) (p q : ℕ) → (visits && concerns cause (p % 32)) ≡ true → p < q → q < nextPlace cause (there s p) p → reports visits s cause q ≡ false
   unfolding nextPlace
   next-silent Tick p q h k l = go (there s p) refl l
     where
@@ -149,7 +127,7 @@ module _ (visits : Bool) (s : State) where
       omega arith)
 
 -- the first place is one of the visit
-pub first-on : (visits : Bool) (cause : Cause) → cond visits (firstOf cause) 256 < 256 → (visits && concerns cause (cond visits (firstOf cause) 256 % 32)) ≡ true
+first-on : (visits : Bool) (cause : Cause) → cond visits (firstOf cause) 256 < 256 → (visits && concerns cause (cond visits (firstOf cause) 256 % 32)) ≡ true
 first-on false cause l = absurd (omega arith)
 first-on true Tick l = refl
 first-on true (Reading j) l = go (ltb j 32) refl l
@@ -159,7 +137,7 @@ first-on true (Reading j) l = go (ltb j 32) refl l
     go false e l = absurd (omega arith)
 
 -- so is the next
-pub next-on : (visits t : Bool) (cause : Cause) (p : ℕ) → (visits && concerns cause (p % 32)) ≡ true → (visits && concerns cause (nextPlace cause t p % 32)) ≡ true
+next-on : (visits t : Bool) (cause : Cause) (p : ℕ) → (visits && concerns cause (p % 32)) ≡ true → (visits && concerns cause (nextPlace cause t p % 32)) ≡ true
 unfolding nextPlace
 next-on visits t Tick p h = h
 next-on visits t (Reading j) p h = let e : (p + 32) % 32 ≡ p % 32 = omega arith in rw e h
@@ -171,13 +149,79 @@ next-behind true Tick p = omega arith
 next-behind false Tick p = omega arith
 next-behind t (Reading j) p = omega arith
 
+-- the visit has come to p: one of its places, or behind them all, and those before it are passed
+pub record Come (visits : Bool) (s : State) (cause : Cause) (start : Output) (p : ℕ) (pairs : List Subscription) (end : Output) : Type 0 where
+  pub on : p < 256 → (visits && concerns cause (p % 32)) ≡ true
+  pub passed : Passed visits s cause start (min p 256) pairs end
+
+-- it begins at the first place
+pub first-come : (visits : Bool) (s : State) (cause : Cause) (start : Output) {p : ℕ} → length (s .subscriptions) ≡ 256 → p ≡ cond visits (firstOf cause) 256
+    → Come visits s cause start p (s .subscriptions) start
+first-come visits s cause start {p} all e = record {
+  on = λ l. rw e (first-on visits cause (rw e at l));
+  passed = silent all 0 (min p 256) (omega arith) (omega arith) (λ q k l. first-silent visits s cause q (omega arith) (omega (arith, e))) (begun visits s cause start);
+}
+
+-- The turn of the place that the visit has come to.
+module _ {visits : Bool} {s : State} {cause : Cause} {start end : Output} {pairs : List Subscription} {p : ℕ} (all : length (s .subscriptions) ≡ 256)
+    (below : p < 256) (come : Come visits s cause start p pairs end) where
+  -- the places before it are passed
+  now : Passed visits s cause start p pairs end
+  now = let e : min p 256 ≡ p = omega arith in rw e at (come .passed)
+
+  -- its subscription is as it was
+  pair-same : getD pairs p noSubscription ≡ pairAt s p
+  pair-same = rw (now .left) (unwritten (leaves visits s cause) (s .subscriptions) p noSubscription (omega arith))
+
+  -- whether it reports
+  turn : reports visits s cause p ≡ (there s p && due (byReading cause) (s .clock) (sensorOf (s .sheet) (p % 32)) (present s (p % 32)) (getD pairs p noSubscription))
+  unfolding dueAt
+  turn = let q = and-true visits (concerns cause (p % 32)) (come .on below) in rw (q .0, q .1, and-assoc, pair-same)
+
+  -- where it is there and its strategy can report, it is asked
+  pub turn-asked : (reading can is : Bool) → reading ≡ byReading cause → (there s p && can) ≡ true
+      → is ≡ due reading (s .clock) (sensorOf (s .sheet) (p % 32)) (present s (p % 32)) (getD pairs p noSubscription) → reports visits s cause p ≡ is
+  turn-asked reading can is e t h =
+      turn ∙ sym (asked (there s p) can (due (byReading cause) (s .clock) (sensorOf (s .sheet) (p % 32)) (present s (p % 32)) (getD pairs p noSubscription)) is t (rw e at h))
+
+  -- else it does not report
+  pub turn-not : (reading can : Bool) → reading ≡ byReading cause → can ≡ canReport reading (getD pairs p noSubscription .strategy) → (there s p && can) ≡ false
+      → reports visits s cause p ≡ false
+  turn-not reading can e k t =
+      turn ∙ sym (cannot (there s p) (byReading cause) (s .clock) (sensorOf (s .sheet) (p % 32)) (present s (p % 32)) (getD pairs p noSubscription) (rw (k, e) at t))
+
+  -- after its report the place is passed
+  pub turn-reports : {x : Subscription} {end′ : Output} → reports visits s cause p ≡ true
+      → x ≡ reported (s .clock) (present s (p % 32)) (getD pairs p noSubscription) → Sent end (to (p / 32) (reportOf (s .sheet) s (p % 32)) ∷ []) end′
+      → Passed visits s cause start (p + 1) (set pairs p x) end′
+  unfolding gather
+  turn-reports {x} e f g =
+      let w : x ≡ leaves visits s cause p = rw (e, ← pair-same) f in record {
+        left = rw (w, now .left) (filled-one (leaves visits s cause) (s .subscriptions) p (omega arith));
+        sent = rw (add-one, e) (and (now .sent) g);
+      }
+
+  -- without one too
+  pub turn-silent : reports visits s cause p ≡ false → Passed visits s cause start (p + 1) pairs end
+  turn-silent e = rw add-one (one-silent all p below e now)
+
+  -- and then the visit comes to the next
+  pub next-come : {r : ℕ} {pairs′ : List Subscription} {end′ : Output} → r ≡ nextPlace cause (there s p) p
+      → Passed visits s cause start (p + 1) pairs′ end′ → Come visits s cause start r pairs′ end′
+  next-come {r} e h = record {
+    on = λ l. rw e (next-on visits (there s p) cause p (come .on below));
+    passed = silent all (p + 1) (min r 256) (omega (arith, next-behind (there s p) cause p)) (omega arith) (λ q k l. next-silent visits s cause p q (come .on below) (omega arith) (omega (arith, e))) h;
+  }
+
 -- all places are passed
-pub visited : (visits : Bool) (s : State) (cause : Cause) {start end : Output} {pairs : List Subscription} → length (s .subscriptions) ≡ 256
-    → Passed visits s cause start 256 pairs end
+pub visited : (visits : Bool) (s : State) (cause : Cause) {start end : Output} {pairs : List Subscription} {p : ℕ} → length (s .subscriptions) ≡ 256
+    → Come visits s cause start p pairs end → 256 ≤ p
     → (withPairs s pairs ≡ cond visits (visit (s .sheet) s cause) (record { sent = []; next = s }) .next)
     × Sent start (cond visits (visit (s .sheet) s cause) (record { sent = []; next = s }) .sent) end
 unfolding pairAfter pairSends
-visited true s cause all h = (rw (h .left) (ap (withPairs s) (filled-all (leaves true s cause) (s .subscriptions) 256 all)), h .sent)
-visited false s cause {start} all h =
+visited true s cause {p = p} all come k = let e : min p 256 ≡ 256 = omega arith in let h = rw e at (come .passed) in (rw (h .left) (ap (withPairs s) (filled-all (leaves true s cause) (s .subscriptions) 256 all)), h .sent)
+visited false s cause {start = start} {p = p} all come k =
+    let e : min p 256 ≡ 256 = omega arith in
+    let h = rw e at (come .passed) in
     let none : Passed false s cause start 256 (s .subscriptions) start = silent all 0 256 (omega arith) (omega arith) (λ q k l. refl) (begun false s cause start) in
     (ap (withPairs s) (h .left ∙ sym (none .left)), record { is = h .sent .is ∙ sym (none .sent .is) })
