@@ -1,4 +1,4 @@
--- A subscription's turn where it does not report, and where its strategy cannot.
+-- A subscription's turn: its strategy cannot report, or it is asked.
 use Prim.Native.Nat.{ℕ}
 use mathlib.Core.Path.{_≡_, refl, sym}
 use mathlib.Core.Bool.{Bool, true, false, _&&_, true≢false}
@@ -23,12 +23,12 @@ cannot-by (DifferentialRate d a b) reading gone n last now h = absurd (true≢fa
 
 -- it is not there, or cannot report
 pub cannot : (there reading : Bool) (clock : ℕ) (n : Sensor) (now : Sample) (p : Subscription)
-    → (there && canReport reading (p .strategy)) ≡ false → false ≡ (there && due reading clock n now p)
+    → (there && canReport reading (p .strategy)) ≡ false → (there && due reading clock n now p) ≡ false
 unfolding due
 cannot false reading clock n now p h = refl
-cannot true reading clock n now p h = sym (cannot-by (p .strategy) reading _ n (p .sample) now h)
+cannot true reading clock n now p h = cannot-by (p .strategy) reading _ n (p .sample) now h
 
 -- it is there, and reports or not
-pub asked : (there can d is : Bool) → (there && can) ≡ true → is ≡ d → is ≡ (there && d)
-asked true can d is h e = e
+pub asked : (there can d is : Bool) → (there && can) ≡ true → is ≡ d → (there && d) ≡ is
+asked true can d is h e = sym e
 asked false can d is h e = absurd (true≢false (sym h))

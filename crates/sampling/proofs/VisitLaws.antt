@@ -9,7 +9,7 @@ use lib.Dec.{eqb, ltb}
 use lib.ListN.{length, getD, drop, set}
 use lib.Seq.{drop-cons}
 use borrow.Author.Tests.{eqb-true, eqb-false, ltb-true, lt-ltb, eq-eqb}
-use Rattle.output.specs.Output.{Output, output}
+use Rattle.output.specs.Output.{Output}
 use Rattle.message.specs.Delivery.{Delivery, to, Sent}
 use Rattle.message.proofs.DeliveryLaws.{and, none-sent, as-sent}
 use Rattle.machine.specs.declared.Subscription.{Subscription}
@@ -20,7 +20,7 @@ use Rattle.machine.specs.Places.{tabulate, gather, oneIf}
 use Rattle.machine.specs.Sheet.{sensorOf}
 use Rattle.machine.specs.State.{noSubscription, present, connected, pairAt, withPairs}
 use Rattle.machine.specs.Messages.{reportOf}
-use Rattle.machine.specs.Report.{Work, byReading, concerns, due, dueAt, reported, pairAfter, pairSends, visit}
+use Rattle.machine.specs.Report.{byReading, concerns, due, dueAt, reported, pairAfter, pairSends, visit}
 use Rattle.machine.proofs.StoreLaws.{filled-one, filled-all, unwritten}
 use Rattle.machine.proofs.TestLaws.{and-true, and-in}
 use Rattle.sampling.specs.Visits.{canReport, firstOf, nextPlace}
@@ -57,30 +57,30 @@ pub record Passed (visits : Bool) (s : State) (cause : Cause) (start : Output) (
   pub sent : Sent start (gather (sends visits s cause) n) end
 
 -- no place is passed
-pub begun : (visits : Bool) (s : State) (cause : Cause) (start : Output) → Passed visits s cause start 0 (s .subscriptions) start
+begun : (visits : Bool) (s : State) (cause : Cause) (start : Output) → Passed visits s cause start 0 (s .subscriptions) start
 unfolding tabulate gather
 begun visits s cause start = record { left = refl; sent = none-sent }
 
 module _ {visits : Bool} {s : State} {cause : Cause} {start end : Output} {pairs : List Subscription} (all : length (s .subscriptions) ≡ 256) where
-  -- a place that does not report
+  -- a place that does not report is passed
   one-silent : (n : ℕ) → n < 256 → reports visits s cause n ≡ false → Passed visits s cause start n pairs end → Passed visits s cause start (suc n) pairs end
   unfolding tabulate gather
   one-silent n l e h = record {
     left = h .left ∙ rw (drop-cons (s .subscriptions) n noSubscription (omega arith), e) (sym (append-assoc (tabulate (leaves visits s cause) n) (pairAt s n ∷ []) (drop (suc n) (s .subscriptions))));
-    sent = as-sent (h .sent) (rw (e) (sym (append-nil (gather (sends visits s cause) n))));
+    sent = as-sent (h .sent) (rw e (sym (append-nil (gather (sends visits s cause) n))));
   }
 
-  -- places that do not report
-  pub silent : (m n : ℕ) → m ≤ n → n ≤ 256 → ((q : ℕ) → m ≤ q → q < n → reports visits s cause q ≡ false)
+  -- so are places that do not report
+  silent : (m n : ℕ) → m ≤ n → n ≤ 256 → ((q : ℕ) → m ≤ q → q < n → reports visits s cause q ≡ false)
       → Passed visits s cause start m pairs end → Passed visits s cause start n pairs end
   silent m n k l none = up (λ n. Passed visits s cause start n pairs end) m n k (λ q h i. one-silent q (omega arith) (none q h i))
 
--- a test that cannot hold
+-- a test that cannot hold is false
 refuted : (b : Bool) → (b ≡ true → ⊥) → b ≡ false
 refuted true h = absurd (h refl)
 refuted false h = refl
 
--- five tests that hold
+-- where five tests hold, the first and the fourth do, and the second and the third
 all-five : (a b c d e : Bool) → (a && (b && (c && (d && e)))) ≡ true → ((a && d) ≡ true) × ((b && c) ≡ true)
 all-five true true true true e h = (refl, refl)
 all-five true true true false e h = absurd (true≢false (sym h))
@@ -182,13 +182,13 @@ module _ {visits : Bool} {s : State} {cause : Cause} {start end : Output} {pairs
   pub turn-asked : (reading can is : Bool) → reading ≡ byReading cause → (there s p && can) ≡ true
       → is ≡ due reading (s .clock) (sensorOf (s .sheet) (p % 32)) (present s (p % 32)) (getD pairs p noSubscription) → reports visits s cause p ≡ is
   turn-asked reading can is e t h =
-      turn ∙ sym (asked (there s p) can (due (byReading cause) (s .clock) (sensorOf (s .sheet) (p % 32)) (present s (p % 32)) (getD pairs p noSubscription)) is t (rw e at h))
+      turn ∙ asked (there s p) can (due (byReading cause) (s .clock) (sensorOf (s .sheet) (p % 32)) (present s (p % 32)) (getD pairs p noSubscription)) is t (rw e at h)
 
   -- else it does not report
   pub turn-not : (reading can : Bool) → reading ≡ byReading cause → can ≡ canReport reading (getD pairs p noSubscription .strategy) → (there s p && can) ≡ false
       → reports visits s cause p ≡ false
   turn-not reading can e k t =
-      turn ∙ sym (cannot (there s p) (byReading cause) (s .clock) (sensorOf (s .sheet) (p % 32)) (present s (p % 32)) (getD pairs p noSubscription) (rw (k, e) at t))
+      turn ∙ cannot (there s p) (byReading cause) (s .clock) (sensorOf (s .sheet) (p % 32)) (present s (p % 32)) (getD pairs p noSubscription) (rw (k, e) at t)
 
   -- after its report the place is passed
   pub turn-reports : {x : Subscription} {end′ : Output} → reports visits s cause p ≡ true
@@ -213,13 +213,16 @@ module _ {visits : Bool} {s : State} {cause : Cause} {start end : Output} {pairs
     passed = silent all (p + 1) (min r 256) (omega (arith, next-behind (there s p) cause p)) (omega arith) (λ q k l. next-silent visits s cause p q (come .on below) (omega arith) (omega (arith, e))) h;
   }
 
--- all places are passed
+-- behind all places the visit is done; of a call that visits none the subscriptions are as they were, and nothing was sent
 pub visited : (visits : Bool) (s : State) (cause : Cause) {start end : Output} {pairs : List Subscription} {p : ℕ} → length (s .subscriptions) ≡ 256
     → Come visits s cause start p pairs end → 256 ≤ p
     → (withPairs s pairs ≡ cond visits (visit (s .sheet) s cause) (record { sent = []; next = s }) .next)
     × Sent start (cond visits (visit (s .sheet) s cause) (record { sent = []; next = s }) .sent) end
 unfolding pairAfter pairSends
-visited true s cause {p = p} all come k = let e : min p 256 ≡ 256 = omega arith in let h = rw e at (come .passed) in (rw (h .left) (ap (withPairs s) (filled-all (leaves true s cause) (s .subscriptions) 256 all)), h .sent)
+visited true s cause {p = p} all come k =
+    let e : min p 256 ≡ 256 = omega arith in
+    let h = rw e at (come .passed) in
+    (rw (h .left) (ap (withPairs s) (filled-all (leaves true s cause) (s .subscriptions) 256 all)), h .sent)
 visited false s cause {start = start} {p = p} all come k =
     let e : min p 256 ≡ 256 = omega arith in
     let h = rw e at (come .passed) in

@@ -1,7 +1,4 @@
 -- By the number and the cause.
-use mathlib.Core.Path.{_≡_}
-use mathlib.Core.Bool.{true, false}
-use lib.Dec.{eqb, ltb}
 use borrow.Author.Tests.{eq-eqb, ne-eqb, lt-ltb, le-ltb}
 use borrow.Author.Needs.{needs}
 use Rattle.sampling.specs.Visits.{firstPlace}

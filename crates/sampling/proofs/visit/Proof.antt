@@ -1,7 +1,7 @@
 -- The invariant: the places before p are passed, and p is a place of the visit or behind all of them. The measure is the places that are left.
 use Prim.Native.Nat.{_<_, _-_}
 use native.Mathlib.Omega.{arith}
-use mathlib.Core.Path.{_≡_, refl, sym, _∙_}
+use mathlib.Core.Path.{refl, sym, _∙_}
 use mathlib.Core.Logic.{⊎-elim}
 use mathlib.Core.Bool.{true, false}
 use lib.Dec.{eqb}
