@@ -201,7 +201,7 @@ module _ {visits : Bool} {s : State} {cause : Cause} {start end : Output} {pairs
         sent = rw (add-one, e) (and (now .sent) g);
       }
 
-  -- without one too
+  -- without a report it is passed too
   pub turn-silent : reports visits s cause p ≡ false → Passed visits s cause start (p + 1) pairs end
   turn-silent e = rw add-one (one-silent all p below e now)
 

@@ -10,7 +10,7 @@ use Rattle.output.specs.Output.{output}
 use Rattle.message.proofs.DeliveryLaws.{kept}
 use Rattle.machine.proofs.ArrayLaws.{subscriptions-many}
 use Rattle.sampling.specs.Visits.{moment, firstPlace}
-use Rattle.sampling.proofs.VisitLaws.{there, Come, first-come, next-come, next-behind, turn-asked, turn-not, turn-reports, turn-silent, visited}
+use Rattle.sampling.proofs.VisitLaws.{Come, first-come, next-come, next-behind, turn-asked, turn-not, turn-reports, turn-silent, visited}
 use Rattle.sampling.proofs.visit.Statement.{statement}
 use Rattle.sampling.proofs.visit.Tie as tie
 
@@ -92,9 +92,8 @@ next-place-requires c κs = search needs
 
 loop-less : tie.Need-loop-less Inv-loop μ-loop
 loop-less c =
-    let start = c .before .before .before .before .before .before .before .before .before .before .before .before .before .before in
-    let p = c .before .before .before .before .before .before .before .loop .p in
-    omega (arith, c .next-place .ensures, next-behind (there (moment (start .args .s) (start .args .clock) (start .args .t5)) p) (start .args .cause) p)
+    let behind : c .before .before .before .before .before .before .before .loop .p < c .next-place .result = rw (c .next-place .ensures) (next-behind _ _ _) in
+    omega arith
 
 loop-again : tie.Need-loop-again Inv-loop μ-loop
 loop-again c =
