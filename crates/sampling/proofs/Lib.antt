@@ -1,2 +1,3 @@
 pub mod WidthLaws
+pub mod TurnLaws
 pub mod VisitLaws

@@ -4,22 +4,22 @@ use machine::Cause;
 use machine::Choice;
 use machine::Sensor;
 use machine::State;
+use machine::Stored;
 use machine::Strategy;
 use machine::Subscription;
 use value::Sample;
 ghost use mathlib.Core.Path.{_≡_};
-ghost use mathlib.Core.Bool.{cond, _&&_};
 ghost use mathlib.Core.List.{[], _∷_};
-ghost use Prim.Native.Nat.{_-_};
+ghost use Prim.Native.Nat.{_-_, _<_};
 ghost use lib.ListN.{take};
 ghost use Rattle.output.specs.Output.{output, Wrote};
 ghost use Rattle.message.specs.Message.{arg, line};
 ghost use Rattle.message.specs.Delivery.{to, Sent};
-ghost use Rattle.machine.specs.Places.{oneIf};
 ghost use Rattle.machine.specs.Sheet.{nameOf, optionOf};
 ghost use Rattle.machine.specs.Messages as messages;
 ghost use Rattle.machine.specs.Report as reports;
 ghost use Rattle.machine.specs.Requests.{sampled};
+ghost use Rattle.sampling.specs.Visits as visits;
 
 // Whether two samples of a sensor have different statuses.
 fn status_changed(sensor: Sensor, last: Sample, present: Sample) -> bool
@@ -194,64 +194,56 @@ fn by_reading(cause: Cause) -> bool
     }
 }
 
-// A tick visits the subscriptions to every sensor, a reading those to its own.
-fn does_concern(cause: Cause, sensor: usize) -> bool
-    ensures { λ r. ⌜ r ≡ reports.concerns cause sensor ⌝ }
+// Whether a strategy can report at a reading, or else at a tick, whatever the sensor's reading is.
+fn can_report(reading: bool, strategy: Strategy) -> bool
+    ensures { λ r. ⌜ r ≡ visits.canReport reading strategy ⌝ }
 {
-    match cause {
-        Cause::Tick => true,
-        Cause::Reading(j) => j == sensor,
+    match strategy {
+        Strategy::None => false,
+        Strategy::Auto => reading,
+        Strategy::Period(_) => !reading,
+        Strategy::Event => reading,
+        Strategy::Differential(_) => reading,
+        Strategy::EventRate(_, _) => true,
+        Strategy::DifferentialRate(_, _, _) => true,
     }
 }
 
-// Whether a subscription reports, where its client and its sensor are there.
-fn does_report(
-    there: bool,
-    reading: bool,
-    clock: u64,
-    sensor: Sensor,
-    present: Sample,
-    pair: Subscription,
-) -> bool
-    ensures { λ r. ⌜ r ≡ (there && reports.due reading clock sensor present pair) ⌝ }
-{
-    if !there {
-        return false;
-    }
-    is_due(reading, clock, sensor, present, pair)
-}
-
-// Its report, if it is due.
-fn report_if(
-    due: bool,
-    out: &mut [u8],
-    at: usize,
-    client: u8,
-    clock: u64,
-    sensor: Sensor,
-    present: Sample,
-) -> usize
-    ensures { λ r. ⌜ Sent (output (now (out .entry)) at) (oneIf due (to client (messages.report clock sensor present))) (output (now (out .exit)) r) ⌝ }
-{
-    if due {
-        return deliver_report(out, at, client, clock, sensor, present);
-    }
-    at
-}
-
-// A subscription after its turn: a report replaces the last.
-fn after_turn(due: bool, clock: u64, present: Sample, pair: Subscription) -> Subscription
-    ensures { λ r. ⌜ r ≡ cond due (reports.reported clock present pair) pair ⌝ }
+// A subscription after a report, which replaces the last.
+fn after_report(clock: u64, present: Sample, pair: Subscription) -> Subscription
+    ensures { λ r. ⌜ r ≡ reports.reported clock present pair ⌝ }
 {
     let strategy = pair.strategy;
-    if !due {
-        return pair;
-    }
     Subscription {
         strategy: strategy,
         reported: true,
         sample: present,
         time: clock,
+    }
+}
+
+// The first place that the visit of a call goes to; 256, behind all places, where it goes to none.
+fn first_place(number: u8, cause: Cause) -> usize
+    ensures { λ r. ⌜ r ≡ visits.firstPlace number cause ⌝ }
+{
+    if number != 0 {
+        return 256;
+    }
+    match cause {
+        Cause::Tick => 0,
+        Cause::Reading(j) => { if j < 32 { j } else { 256 } }
+    }
+}
+
+// The place behind `p` that it goes to next: at a tick the next sensor of a client, or the next client where no sensor of it is there; at a
+// reading the same sensor of the next client.
+fn next_place(cause: Cause, there: bool, p: usize) -> usize
+    requires { ⌜ p < 256 ⌝ }
+    ensures { λ r. ⌜ r ≡ visits.nextPlace cause there p ⌝ }
+{
+    match cause {
+        Cause::Tick => { if there { p + 1 } else { p - p % 32 + 32 } }
+        Cause::Reading(_) => p + 32,
     }
 }
 
@@ -281,34 +273,58 @@ pub fn with_strategy(
     }
 }
 
-// The answer of a call that visits every subscription: clients by their number, each in sheet order.
-pub fn visit(mut s: State, cause: Cause, out: &mut [u8]) -> Answer
-    ensures { λ r. ⌜ r .number ≡ 0 ⌝ }
-    ensures { λ r. ⌜ r .state ≡ reports.visit (s .sheet) s cause .next ⌝ }
-    ensures { λ r. ⌜ Sent (output (now (out .entry)) 0) (reports.visit (s .sheet) s cause .sent) (output (now (out .exit)) (r .written)) ⌝ }
+// The answer of a call that visits subscriptions, clients by their number, each in sheet order, once clock and readings are these. A pair is
+// asked for its strategy first, and its sensor only where that can report. A call that a row declines visits none: with the clock and the
+// readings of the state it leaves the state as it was. There is one exit, so that the answer is written once.
+pub fn visit(
+    number: u8,
+    s: State,
+    cause: Cause,
+    clock: u64,
+    readings: [Stored; 32],
+    out: &mut [u8],
+) -> Answer
+    ensures { λ r. ⌜ r .number ≡ number ⌝ }
+    ensures { λ r. ⌜ r .state ≡ visits.visiting number (visits.moment s clock readings) cause .next ⌝ }
+    ensures { λ r. ⌜ Sent (output (now (out .entry)) 0) (visits.visiting number (visits.moment s clock readings) cause .sent) (output (now (out .exit)) (r .written)) ⌝ }
 {
     let sheet = s.sheet;
+    let clients = s.clients;
+    let mut pairs = s.subscriptions;
     let count = sheet.count as usize;
     let reading = by_reading(cause);
     let mut at: usize = 0;
-    let mut p: usize = 0;
+    let mut p = first_place(number, cause);
     while p < 256 {
         let c = p / 32;
         let j = p % 32;
-        let client = s.clients[c];
-        let sensor = sheet.sensors[j];
-        let stored = s.readings[j];
-        let present = stored.sample;
-        let pair = s.subscriptions[p];
-        let there = client.connected & ((j < count) & does_concern(cause, j));
-        let due = does_report(there, reading, s.clock, sensor, present, pair);
-        at = report_if(due, out, at, c as u8, s.clock, sensor, present);
-        s.subscriptions[p] = after_turn(due, s.clock, present, pair);
-        p += 1;
+        let client = clients[c];
+        let pair = pairs[p];
+        let strategy = pair.strategy;
+        let there = client.connected & (j < count);
+        if there & can_report(reading, strategy) {
+            let sensor = sheet.sensors[j];
+            let stored = readings[j];
+            let present = stored.sample;
+            if is_due(reading, clock, sensor, present, pair) {
+                at = deliver_report(out, at, c as u8, clock, sensor, present);
+                pairs[p] = after_report(clock, present, pair);
+            }
+        }
+        p = next_place(cause, there, p);
     }
+    let next = State {
+        sheet: sheet,
+        clock: clock,
+        halted: s.halted,
+        level: s.level,
+        readings: readings,
+        clients: clients,
+        subscriptions: pairs,
+    };
     Answer {
-        number: 0,
+        number: number,
         written: at,
-        state: s,
+        state: next,
     }
 }
