@@ -1,53 +1,36 @@
--- The rows are those of the call; one that none declines sends its entry and changes nothing.
-use mathlib.Core.Path.{_≡_, refl, _∙_}
 use borrow.Author.Needs.{needs}
-use Rattle.machine.specs.Declined.{Action, Log, actionDeclined, refusal}
-use Rattle.machine.specs.Machine.{entries, perform}
-use Rattle.declining.proofs.AnswerLaws.{numberOf, declined-by, refused, performed}
 use Rattle.device.proofs.log.Statement.{statement}
 use Rattle.device.proofs.log.Tie as tie
+use Rattle.device.proofs.log.Reads as reads
+use Rattle.device.proofs.log.Lts as lts
+use Rattle.declining.proofs.rows.Reads as rows-reads
+use Rattle.device.proofs.entry_row.Reads as entry-row-reads
+use Rattle.device.proofs.put_entry.Reads as put-entry-reads
+use Rattle.sheet.proofs.in_range.Reads as in-range-reads
 
--- the call, its start and its number
-abbrev asked : tie.Start → Action
-asked s = Log (s .args .level) (s .args .logger .now) (s .args .message .now)
-
-abbrev start : tie.After-rows → tie.Start
-start c = c .before .before .before .before .before .before
-
-number-is : (c : tie.After-rows) → numberOf (start c .args .state) (asked (start c)) (start c .args .out .now) ≡ c .rows .result
-unfolding actionDeclined
-number-is c =
-    declined-by (start c .args .state) (asked (start c)) (start c .args .out .now) (c .before .in-range .ensures) (c .before .before .entry-row .ensures) (c .rows .ensures)
-
+-- src/lib.rt:303:9
 entry-row-requires : tie.Need-entry-row-requires
 entry-row-requires c κs = search needs
 
+-- src/lib.rt:304:34
 in-range-requires : tie.Need-in-range-requires
 in-range-requires c κs = search needs
 
+-- src/lib.rt:304:9
 rows-requires : tie.Need-rows-requires
 rows-requires c κs = search needs
 
-silent-requires : tie.Need-silent-requires
-silent-requires c κs = search needs
-
-returns : tie.Need-returns
-unfolding refusal
-returns c =
-    let s = c .before .before .before .before .before .before .before .before in
-    refused (s .args .state) (asked s) (s .args .out .now) (number-is (c .before .before)) (c .before .if1 .taken) refl (c .silent .ensures)
-
+-- src/lib.rt:306:9
 put-entry-requires : tie.Need-put-entry-requires
 put-entry-requires c κs = search needs
 
+-- src/lib.rt:299:1
 same-length : tie.Need-same-length
 same-length c = search needs
 
-returns-2 : tie.Need-returns-2
-unfolding perform entries
-returns-2 c =
-    let s = c .before .before .before .before .before .before .before .before .before .before .before .before in
-    performed (s .args .state) (asked s) (s .args .out .now) (number-is (c .before .before .before .before .before .before) ∙ c .before .before .before .before .before .if1 .left) refl refl (c .before .before .put-entry .ensures)
+-- src/lib.rt:299:1
+returns : tie.Need-returns
+returns c = ?
 
 pub log-spec : {M : Type 1} → statement M
 log-spec =
@@ -56,8 +39,6 @@ log-spec =
     entry-row-requires
     in-range-requires
     rows-requires
-    silent-requires
-    returns
     put-entry-requires
     same-length
-    returns-2)
+    returns)
