@@ -2,7 +2,7 @@
 use Prim.Native.Nat.{ℕ, zero, suc}
 use native.Mathlib.Omega.{arith}
 use mathlib.Core.Path.{_≡_, refl, _∙_, ap}
-use mathlib.Core.Bool.{Bool, true, false, cond}
+use mathlib.Core.Bool.{Bool, true, false, cond, _&&_}
 use mathlib.Core.List.{List, []}
 use lib.Dec.{eqb}
 use borrow.Author.Tests.{ne-eqb}
@@ -22,7 +22,7 @@ use Rattle.machine.specs.Machine.{perform}
 use Rattle.sampling.specs.Visits.{moment, visiting}
 use Rattle.declining.proofs.AnswerLaws.{numberOf, Answers, by-parts, refused, performed}
 
-module _ (s : State) (action : Action) (lent : List ℕ) (r : Answer) where
+module _ (s : State) (action : Action) (lent : List ℕ) {r : Answer} where
   -- what the machine makes of the call where the number is 0, else the state as it was and nothing sent
   pub one-exit : {n : ℕ} {out : List ℕ} → numberOf s action lent ≡ n → refusal s n action ≡ [] → r .number ≡ n → r .state ≡ cond (eqb n 0) (perform (s .sheet) s action .next) s
       → Sent (output lent 0) (cond (eqb n 0) (perform (s .sheet) s action .sent) []) (output out (r .written)) → Answers s action lent r out
@@ -51,3 +51,13 @@ module _ (s : State) (action : Action) (lent : List ℕ) (r : Answer) where
 pub placed : (s : State) (b : Bool) (clients : List Client) (pairs : List Subscription) → withClients s (cond b clients (s .clients)) (cond b pairs (s .subscriptions)) ≡ cond b (withClients s clients pairs) s
 placed s true clients pairs = refl
 placed s false clients pairs = refl
+
+-- a choice within the same choice
+pub chosen : {A B : Type 0} (f : A → B) (b : Bool) (x y : A) (z : B) → cond b (f (cond b x y)) z ≡ cond b (f x) z
+chosen f true x y z = refl
+chosen f false x y z = refl
+
+-- a choice by two tests
+pub by-both : {A : Type 0} (a b : Bool) (x y : A) → cond (a && b) x y ≡ cond a (cond b x y) y
+by-both true b x y = refl
+by-both false b x y = refl

@@ -1,12 +1,12 @@
 -- The rows of the call `reading`; a reading that is taken: its sample, and the state with it.
-use Prim.Native.Nat.{ℕ, _<_}
+use Prim.Native.Nat.{ℕ, zero, suc, _%_, _<_}
 use native.Mathlib.Omega.{arith}
-use mathlib.Core.Path.{_≡_, sym, _∙_, ap}
+use mathlib.Core.Path.{_≡_, refl, sym, _∙_, ap}
 use mathlib.Core.Bool.{Bool, true, cond, not}
 use mathlib.Core.List.{List, [], _∷_}
-use lib.Dec.{leb, ltb}
+use lib.Dec.{eqb, leb, ltb}
 use lib.ListN.{length, set}
-use borrow.Author.Tests.{leb-false, not-false}
+use borrow.Author.Tests.{leb-false, not-false, ne-eqb}
 use Rattle.value.specs.declared.Reading.{Reading as Given}
 use Rattle.value.specs.Reading.{sampleOf}
 use Rattle.value.specs.Answer.{sampledNumber}
@@ -14,10 +14,16 @@ use Rattle.machine.specs.declared.State.{State}
 use Rattle.machine.specs.Sheet.{sensorOf}
 use Rattle.machine.specs.Range.{inRange}
 use Rattle.machine.specs.Declined.{Reading, actionDeclined, declined}
-use Rattle.machine.specs.Machine.{sampleGiven}
+use Rattle.machine.specs.Machine.{sampleGiven, perform}
+use Rattle.machine.specs.Report.{visit}
+use Rattle.machine.specs.declared.Cause.the-variants.{Reading as Read}
+use Rattle.machine.specs.declared.Stored.{Stored}
+use Rattle.sampling.specs.Visits.{moment}
+use Rattle.device.specs.Parts.{readingsAfter}
 use Rattle.machine.proofs.RangeLaws.{range-out, sensors-of}
 use Rattle.value.specs.declared.Sample.{Sample}
-use Rattle.value.specs.declared.Sampled.the-variants.{As}
+use Rattle.value.specs.declared.Sampled.{Sampled}
+use Rattle.value.specs.declared.Sampled.the-variants.{As, Unfit}
 use Rattle.machine.specs.declared.Sensor.{Sensor}
 use Rattle.machine.specs.State.{noStored, withReadings, withReading}
 use Rattle.machine.proofs.StoreLaws.{set-by-place}
@@ -56,11 +62,40 @@ module _ (s : State) (j : ℕ) (r : Given) (lent : List ℕ) where
 
 -- A reading that is taken.
 
+-- its sample
 pub given-is : (n : Sensor) (r : Given) {x : Sample} → sampleOf (n .kind) (n .«option_count») r ≡ As x → sampleGiven n r ≡ x
 unfolding sampleGiven
 given-is n r e = rw e
 
+-- and the state with it
 pub stored-reading : (s : State) (j : ℕ) (x : Sample) → length (s .readings) ≡ 32 → j < 32
     → withReadings s (set (s .readings) j (record { sample = x; time = s .clock })) ≡ withReading s j x
 unfolding withReading
 stored-reading s j x e h = ap (withReadings s) (set-by-place (s .readings) j (record { sample = x; time = s .clock }) noStored (omega arith) ∙ rw e)
+
+-- The call with one exit: the type that is asked is that of the sensor at place j % 32, which is j where rows 1, 2, 3 and 9 pass.
+
+module _ (s : State) (j : ℕ) (r : Given) (lent : List ℕ) {good : Bool} (g : good ≡ inRange s) {own : ℕ} (f : own ≡ cond (leb (s .sheet .count) j) 9 0) {sampled : Sampled} (x : sampled ≡ sampleOf (sensorOf (s .sheet) (j % 32) .kind) (sensorOf (s .sheet) (j % 32) .«option_count») r) where
+  -- it is j
+  asked-place : {rows : ℕ} → rows ≡ rowsThen good s lent own → rows ≡ 0 → j % 32 ≡ j
+  asked-place e h = omega (arith, reading-place s j r lent g f e h)
+
+  -- the number is that of the rows and, behind them, of the sample
+  pub reading-number : {rows n : ℕ} → rows ≡ rowsThen good s lent own → n ≡ cond (eqb rows 0) (sampledNumber sampled) rows → numberOf s (Reading j r) lent ≡ n
+  reading-number {rows = zero} e h = reading-own s j r lent g f e refl .1 .1 ∙ sym (h ∙ ap sampledNumber (rw (asked-place e refl) at x))
+  reading-number {rows = suc k} e h = let z = ne-eqb (suc k) 0 (λ z. omega arith) in reading-declined s j r lent g f e (λ z. omega arith) ∙ sym (rw z at h)
+
+  -- and where it is 0, what is visited is the state with the reading
+  pub reading-taken : {rows n : ℕ} {readings : List Stored} → rows ≡ rowsThen good s lent own → n ≡ cond (eqb rows 0) (sampledNumber sampled) rows → length (s .readings) ≡ 32
+      → readings ≡ cond (eqb n 0) (readingsAfter (s .readings) (j % 32) sampled (s .clock)) (s .readings) → n ≡ 0
+      → visit (s .sheet) (moment s (s .clock) readings) (Read (j % 32)) ≡ perform (s .sheet) s (Reading j r)
+  unfolding perform
+  reading-taken {rows = zero} {readings} e h many w z = go sampled refl
+    where
+      go : (y : Sampled) → sampled ≡ y → visit (s .sheet) (moment s (s .clock) readings) (Read (j % 32)) ≡ perform (s .sheet) s (Reading j r)
+      go (As y) q =
+          let p = asked-place e refl in
+          let stored = stored-reading s j y many (reading-place s j r lent g f e refl) ∙ ap (withReading s j) (sym (given-is (sensorOf (s .sheet) j) r (rw p at (sym x ∙ q)))) in
+          rw (w, z, q, p) (ap (λ (t : State). visit (s .sheet) t (Read j)) stored)
+      go Unfit q = absurd (omega (arith, sym z ∙ h ∙ ap sampledNumber q))
+  reading-taken {rows = suc k} e h many w z = let y = ne-eqb (suc k) 0 (λ z. omega arith) in absurd (omega (arith, sym z ∙ (rw y at h)))

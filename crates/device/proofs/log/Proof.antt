@@ -1,36 +1,39 @@
+-- The rows are those of the call; one that none declines sends its entry and changes nothing.
+use mathlib.Core.Path.{refl, sym}
+use lib.Dec.{eqb}
 use borrow.Author.Needs.{needs}
+use Rattle.machine.specs.Declined.{Log, actionDeclined, refusal}
+use Rattle.machine.specs.Machine.{entries, perform}
+use Rattle.machine.proofs.TestLaws.{cond-same}
+use Rattle.declining.proofs.AnswerLaws.{declined-by}
+use Rattle.device.proofs.ExitLaws.{one-exit, by-both}
 use Rattle.device.proofs.log.Statement.{statement}
 use Rattle.device.proofs.log.Tie as tie
-use Rattle.device.proofs.log.Reads as reads
-use Rattle.device.proofs.log.Lts as lts
-use Rattle.declining.proofs.rows.Reads as rows-reads
-use Rattle.device.proofs.entry_row.Reads as entry-row-reads
-use Rattle.device.proofs.put_entry.Reads as put-entry-reads
-use Rattle.sheet.proofs.in_range.Reads as in-range-reads
 
--- src/lib.rt:303:9
 entry-row-requires : tie.Need-entry-row-requires
 entry-row-requires c κs = search needs
 
--- src/lib.rt:304:34
 in-range-requires : tie.Need-in-range-requires
 in-range-requires c κs = search needs
 
--- src/lib.rt:304:9
 rows-requires : tie.Need-rows-requires
 rows-requires c κs = search needs
 
--- src/lib.rt:306:9
 put-entry-requires : tie.Need-put-entry-requires
 put-entry-requires c κs = search needs
 
--- src/lib.rt:299:1
 same-length : tie.Need-same-length
 same-length c = search needs
 
--- src/lib.rt:299:1
 returns : tie.Need-returns
-returns c = ?
+unfolding actionDeclined refusal perform entries
+returns c =
+    let a = c .before .before .before .before .before .before .before .before .before .before .before .args in
+    let asked = Log (a .level) (a .logger .now) (a .message .now) in
+    let passes = eqb (c .before .before .before .before .before .rows .result) 0 in
+    one-exit (a .state) asked (a .out .now) (declined-by (a .state) asked (a .out .now) (c .before .before .before .before .before .before .in-range .ensures) (c .before .before .before .before .before .before .before .entry-row .ensures) (c .before .before .before .before .before .rows .ensures)) refl refl
+    (sym (cond-same passes (a .state)))
+    (rw by-both at (c .before .before .put-entry .ensures))
 
 pub log-spec : {M : Type 1} → statement M
 log-spec =

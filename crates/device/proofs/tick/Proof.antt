@@ -34,7 +34,7 @@ returns c =
     let a = c .before .before .before .before .before .before .before .before .before .before .args in
     let clock = c .before .before .before .before .before .clock-after .ensures in
     let visit = c .before .before .visit in
-    visited (a .state) (Tick (a .ms)) (a .out .now) (visit .result) Ticked
+    visited (a .state) (Tick (a .ms)) (a .out .now) Ticked
     (declined-by (a .state) (Tick (a .ms)) (a .out .now) (c .before .before .before .before .before .before .before .in-range .ensures) (c .before .before .before .before .before .before .before .before .tick-row .ensures) (c .before .before .before .before .before .before .rows .ensures)) refl
     (λ z. rw (clock, z)) (λ z. rw (clock, ne-eqb _ _ z)) (visit .ensures .0) (visit .ensures .1 .0) (visit .ensures .1 .1)
 

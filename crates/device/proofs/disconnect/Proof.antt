@@ -1,0 +1,56 @@
+-- The rows are those of the call; one that none declines sends nothing and forgets its client.
+use mathlib.Core.Path.{refl, _∙_, ap}
+use mathlib.Core.Bool.{not}
+use borrow.Author.Needs.{needs}
+use Rattle.message.proofs.DeliveryLaws.{none-sent}
+use Rattle.machine.specs.Declined.{Disconnect, actionDeclined, refusal}
+use Rattle.machine.specs.Machine.{perform}
+use Rattle.machine.proofs.TestLaws.{cond-same}
+use Rattle.machine.proofs.StepLaws.{client-fits}
+use Rattle.declining.proofs.AnswerLaws.{own-passes, declined-by}
+use Rattle.device.proofs.ExitLaws.{one-exit}
+use Rattle.device.proofs.RowLaws.{client-same}
+use Rattle.device.proofs.disconnect.Statement.{statement}
+use Rattle.device.proofs.disconnect.Tie as tie
+
+is-connected-requires : tie.Need-is-connected-requires
+is-connected-requires c κs = search needs
+
+client-rows-requires : tie.Need-client-rows-requires
+client-rows-requires c κs = search needs
+
+in-range-requires : tie.Need-in-range-requires
+in-range-requires c κs = search needs
+
+rows-requires : tie.Need-rows-requires
+rows-requires c κs = search needs
+
+blank-client-requires : tie.Need-blank-client-requires
+blank-client-requires c κs = search needs
+
+with-client-requires : tie.Need-with-client-requires
+with-client-requires c κs =
+    let a = c .before .before .before .before .before .before .before .args in
+    λ z. client-fits (not (c .before .before .before .before .is-connected .result)) (a .client) 0 (own-passes (a .state) (a .out .now) (c .before .before .in-range .ensures) (c .before .before .before .client-rows .ensures) (c .before .rows .ensures) z) .0
+
+returns : tie.Need-returns
+unfolding actionDeclined refusal perform
+returns c =
+    let a = c .before .before .before .before .before .before .before .before .args in
+    let asked = Disconnect (a .client) in
+    let row = c .before .before .before .before .client-rows .ensures ∙ client-same (a .client) (ap not (c .before .before .before .before .before .is-connected .ensures)) refl in
+    rw (c .with-client .ensures)
+    (one-exit (a .state) asked (a .out .now) (declined-by (a .state) asked (a .out .now) (c .before .before .before .in-range .ensures) row (c .before .before .rows .ensures)) refl refl
+    (rw (c .before .blank-client .ensures)) (rw cond-same none-sent))
+
+pub disconnect-spec : {M : Type 1} → statement M
+disconnect-spec =
+    tie.close
+    (tie.spec
+    is-connected-requires
+    client-rows-requires
+    in-range-requires
+    rows-requires
+    blank-client-requires
+    with-client-requires
+    returns)
