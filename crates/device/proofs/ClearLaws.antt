@@ -7,17 +7,32 @@ use mathlib.Core.List.{List}
 use lib.Dec.{eqb, ltb}
 use lib.ListN.{length, getD, set}
 use lib.Seq.{ext-getD}
-use borrow.Author.Tests.{eqb-true, eqb-false, eq-eqb, ne-eqb, ltb-true, lt-ltb, le-ltb}
+use borrow.Author.Tests.{eqb-true, eqb-false, eq-eqb, ltb-true, lt-ltb, le-ltb}
 use Rattle.machine.specs.declared.Subscription.{Subscription}
 use Rattle.machine.specs.Places.{tabulate}
 use Rattle.machine.specs.State.{noSubscription}
 use Rattle.machine.proofs.PlacesLaws.{length-tabulate, getD-tabulate}
 use Rattle.machine.proofs.StoreLaws.{set-by-place}
 use Rattle.machine.proofs.TestLaws.{and-true, and-in, test-same}
+use Rattle.device.proofs.RowLaws.{not-none}
+
+-- whether a place is one of the client's first j
+abbrev isIn : ℕ → ℕ → ℕ → Bool
+isIn client j p = ltb (p % 32) j && eqb (p / 32) client
 
 -- what is left at a place where j of the client's places are cleared
 abbrev pub leftAt : List Subscription → ℕ → ℕ → ℕ → Subscription
-leftAt pairs client j p = cond (ltb (p % 32) j && eqb (p / 32) client) noSubscription (getD pairs p noSubscription)
+leftAt pairs client j p = cond (isIn client j p) noSubscription (getD pairs p noSubscription)
+
+-- the test, by what it says
+is-in : (client j p : ℕ) → p % 32 < j → p / 32 ≡ client → isIn client j p ≡ true
+is-in client j p h e = and-in (ltb (p % 32) j) (eqb (p / 32) client) (lt-ltb (p % 32) j h) (eq-eqb (p / 32) client e)
+
+-- and back
+in-is : (client j p : ℕ) → isIn client j p ≡ true → (p % 32 < j) × (p / 32 ≡ client)
+in-is client j p e =
+    let q = and-true (ltb (p % 32) j) (eqb (p / 32) client) e in
+    (ltb-true (p % 32) j (q .0), eqb-true (p / 32) client (q .1))
 
 -- lists by place are equal where each place is
 tabulate-same : {A : Type 0} (f g : ℕ → A) (n : ℕ) → ((i : ℕ) → i < n → f i ≡ g i) → tabulate f n ≡ tabulate g n
@@ -33,7 +48,7 @@ either false b c x y h k = rw (k refl)
 -- there is something to clear only where the number is 0, and then 32 places
 pub clears : (n j : ℕ) {most : ℕ} → most ≡ cond (eqb n 0) 32 0 → j < most → (n ≡ 0) × (most ≡ 32)
 clears zero j e h = (refl, e)
-clears (suc n) j e h = absurd (omega (arith, rw (ne-eqb (suc n) 0 (λ z. omega arith)) at e))
+clears (suc n) j e h = absurd (omega (arith, rw (not-none n) at e))
 
 module _ (pairs : List Subscription) (client : ℕ) where
   -- none is cleared at first
@@ -48,25 +63,20 @@ module _ (pairs : List Subscription) (client : ℕ) where
       set-by-place (tabulate (leftAt pairs client j) 256) (client * 32 + j) noSubscription noSubscription (rw length-tabulate (omega arith))
       ∙ rw (length-tabulate (leftAt pairs client j) 256) (tabulate-same _ (leftAt pairs client (j + 1)) 256 at)
     where
-      here : (p : ℕ) → p ≡ client * 32 + j → (ltb (p % 32) (j + 1) && eqb (p / 32) client) ≡ true
-      here p e = and-in (ltb (p % 32) (j + 1)) (eqb (p / 32) client) (lt-ltb (p % 32) (j + 1) (omega arith)) (eq-eqb (p / 32) client (omega arith))
-
-      elsewhere : (p : ℕ) → (p ≡ client * 32 + j → ⊥) → (ltb (p % 32) j && eqb (p / 32) client) ≡ (ltb (p % 32) (j + 1) && eqb (p / 32) client)
+      elsewhere : (p : ℕ) → (p ≡ client * 32 + j → ⊥) → isIn client j p ≡ isIn client (j + 1) p
       elsewhere p n =
-          test-same (ltb (p % 32) j && eqb (p / 32) client) (ltb (p % 32) (j + 1) && eqb (p / 32) client)
-          (λ e. let q = and-true (ltb (p % 32) j) (eqb (p / 32) client) e in
-              and-in (ltb (p % 32) (j + 1)) (eqb (p / 32) client) (lt-ltb (p % 32) (j + 1) (omega (arith, ltb-true (p % 32) j (q .0)))) (q .1))
-          (λ e. let q = and-true (ltb (p % 32) (j + 1)) (eqb (p / 32) client) e in
-              and-in (ltb (p % 32) j) (eqb (p / 32) client) (lt-ltb (p % 32) j (omega (arith, ltb-true (p % 32) (j + 1) (q .0), eqb-true (p / 32) client (q .1), n))) (q .1))
+          test-same (isIn client j p) (isIn client (j + 1) p)
+          (λ e. let q = in-is client j p e in is-in client (j + 1) p (omega arith) (q .1))
+          (λ e. let q = in-is client (j + 1) p e in is-in client j p (omega (arith, n)) (q .1))
 
       at : (p : ℕ) → p < 256 → cond (eqb p (client * 32 + j)) noSubscription (getD (tabulate (leftAt pairs client j) 256) p noSubscription) ≡ leftAt pairs client (j + 1) p
       at p m =
           rw (getD-tabulate (leftAt pairs client j) 256 p noSubscription m)
-          (either (eqb p (client * 32 + j)) (ltb (p % 32) j && eqb (p / 32) client) (ltb (p % 32) (j + 1) && eqb (p / 32) client) noSubscription (getD pairs p noSubscription)
-          (λ e. here p (eqb-true p (client * 32 + j) e)) (λ e. elsewhere p (eqb-false p (client * 32 + j) e)))
+          (either (eqb p (client * 32 + j)) (isIn client j p) (isIn client (j + 1) p) noSubscription (getD pairs p noSubscription)
+          (λ e. let q = eqb-true p (client * 32 + j) e in is-in client (j + 1) p (omega arith) (omega arith)) (λ e. elsewhere p (eqb-false p (client * 32 + j) e)))
 
   -- all that a call of a number clears
   pub cleared-all : (n : ℕ) {most : ℕ} → most ≡ cond (eqb n 0) 32 0 → length pairs ≡ 256
       → tabulate (leftAt pairs client most) 256 ≡ cond (eqb n 0) (tabulate (λ p. cond (eqb (p / 32) client) noSubscription (getD pairs p noSubscription)) 256) pairs
   cleared-all zero e h = rw e (tabulate-same (leftAt pairs client 32) _ 256 (λ p m. rw (lt-ltb (p % 32) 32 (omega arith))))
-  cleared-all (suc n) e h = rw (e, ne-eqb (suc n) 0 (λ z. omega arith)) (sym (cleared-none h))
+  cleared-all (suc n) e h = rw (e, not-none n) (sym (cleared-none h))

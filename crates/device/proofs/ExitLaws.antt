@@ -5,7 +5,6 @@ use mathlib.Core.Path.{_≡_, refl, _∙_, ap}
 use mathlib.Core.Bool.{Bool, true, false, cond, _&&_}
 use mathlib.Core.List.{List, []}
 use lib.Dec.{eqb}
-use borrow.Author.Tests.{ne-eqb}
 use Rattle.output.specs.Output.{Output, output}
 use Rattle.message.specs.Delivery.{Sent}
 use Rattle.message.proofs.DeliveryLaws.{as-sent}
@@ -21,6 +20,7 @@ use Rattle.machine.specs.Declined.{Action, refusal}
 use Rattle.machine.specs.Machine.{perform}
 use Rattle.sampling.specs.Visits.{moment, visiting}
 use Rattle.declining.proofs.AnswerLaws.{numberOf, Answers, by-parts, refused, performed}
+use Rattle.device.proofs.RowLaws.{not-none}
 
 module _ (s : State) (action : Action) (lent : List ℕ) {r : Answer} where
   -- what the machine makes of the call where the number is 0, else the state as it was and nothing sent
@@ -28,13 +28,11 @@ module _ (s : State) (action : Action) (lent : List ℕ) {r : Answer} where
       → Sent (output lent 0) (cond (eqb n 0) (perform (s .sheet) s action .sent) []) (output out (r .written)) → Answers s action lent r out
   one-exit {n = zero} e f q st d = performed s action lent e (by-parts r q) st d
   one-exit {n = suc n} {out} e f q st d =
-      let z : eqb (suc n) 0 ≡ false = ne-eqb (suc n) 0 (λ z. omega arith) in
-      let untouched : output out (r .written) ≡ output lent 0 = rw z at (d .is) in
+      let untouched : output out (r .written) ≡ output lent 0 = rw (not-none n) at (d .is) in
       let same : out ≡ lent = ap (λ (x : Output). x .bytes) untouched in
-      rw same (refused s action lent e (λ z. omega arith) f (parts r q (ap (λ (x : Output). x .at) untouched) (rw z at st)))
-    where
-      parts : (r : Answer) {n w : ℕ} {t : State} → r .number ≡ n → r .written ≡ w → r .state ≡ t → r ≡ record { number = n; written = w; state = t }
-      parts r e f g = rw (e, f, g)
+      let none : r .written ≡ 0 = ap (λ (x : Output). x .at) untouched in
+      let left : r .state ≡ s = rw (not-none n) at st in
+      rw same (refused s action lent e (λ z. omega arith) f (rw (q, none, left)))
 
   -- a call that visits: the moment visited is that of the machine where the number is 0, else that of the state as it was
   pub visited : (cause : Cause) {n clock : ℕ} {readings : List Stored} {out : List ℕ} → numberOf s action lent ≡ n → refusal s n action ≡ []
@@ -44,7 +42,7 @@ module _ (s : State) (action : Action) (lent : List ℕ) {r : Answer} where
   visited cause {n = zero} e f made same q st d =
       one-exit e f q (st ∙ ap (λ (w : Work). w .next) (made refl)) (as-sent d (ap (λ (w : Work). w .sent) (made refl)))
   visited cause {n = suc n} e f made same q st d =
-      let z : eqb (suc n) 0 ≡ false = ne-eqb (suc n) 0 (λ z. omega arith) in
+      let z = not-none n in
       one-exit e f q (rw z ((rw z at st) ∙ same (λ z. omega arith))) (rw z (rw z at d))
 
 -- clients and subscriptions that are chosen by a test, in a state that is chosen by it
