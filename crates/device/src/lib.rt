@@ -19,12 +19,14 @@ ghost use lib.ListN.{length, getD};
 ghost use Rattle.output.specs.Output.{output};
 ghost use Rattle.output.specs.Read.{inTime};
 ghost use Rattle.message.specs.Delivery.{Sent};
+ghost use Rattle.value.specs.Answer.{sampledNumber};
 ghost use Rattle.machine.specs.Places.{tabulate};
 ghost use Rattle.machine.specs.Messages.{toWhere, logEntry};
 ghost use Rattle.machine.specs.State as states;
 ghost use Rattle.machine.specs.Opening as opening;
 ghost use Rattle.machine.specs.Declined as calls;
-ghost use Rattle.machine.specs.Machine.{step, answerOf, outputOf};
+ghost use Rattle.machine.specs.Machine.{connectSends, step, answerOf, outputOf};
+ghost use Rattle.device.specs.Parts.{readingsAfter};
 
 // Number 0 and the fresh state of a sheet, or 4 and the blank state where the bytes are no sheet.
 pub fn open(sheet: &[u8]) -> Opened
@@ -75,11 +77,14 @@ fn entry_row(level: u8, logger: &[u8], message: &[u8]) -> u8
     }
 }
 
-// A client that connects.
-fn client_at(address: &[u8]) -> Client
-    requires { ⌜ length (now address) ≤ 48 ⌝ }
-    ensures { λ r. ⌜ r ≡ states.clientAt (now (address .entry)) ⌝ }
+// A client that connects; where the call is declined, one that is not connected.
+fn newcomer(number: u8, address: &[u8]) -> Client
+    requires { ⌜ (number ≡ 0 → length (now address) ≤ 48) ⌝ }
+    ensures { λ r. ⌜ r ≡ cond (eqb number 0) (states.clientAt (now (address .entry))) states.blankClient ⌝ }
 {
+    if number != 0 {
+        return machine::blank_client();
+    }
     let mut text = [0; 48];
     output::put_bytes(&mut text, 0, address);
     Client {
@@ -89,41 +94,79 @@ fn client_at(address: &[u8]) -> Client
     }
 }
 
-// The subscription of a client that comes or goes starts anew.
-fn kept(gone: bool, pair: Subscription) -> Subscription
-    ensures { λ r. ⌜ r ≡ cond gone states.noSubscription pair ⌝ }
+// How many places of a client a call of a number clears.
+fn cleared(number: u8) -> usize
+    ensures { λ r. ⌜ r ≡ cond (eqb number 0) 32 0 ⌝ }
 {
-    if gone {
-        return machine::no_subscription();
-    }
-    pair
+    if number == 0 { 32 } else { 0 }
 }
 
-// The subscriptions without those of a client.
-fn without_client(pairs: [Subscription; 256], client: usize) -> [Subscription; 256]
-    ensures { λ r. ⌜ r ≡ tabulate (λ p. cond (eqb (p / 32) client) states.noSubscription (getD pairs p states.noSubscription)) 256 ⌝ }
+// The subscriptions without those of a client; as they were where the call is declined.
+fn without_client(number: u8, pairs: [Subscription; 256], client: usize) -> [Subscription; 256]
+    requires { ⌜ (number ≡ 0 → client < 8) ⌝ }
+    ensures { λ r. ⌜ r ≡ cond (eqb number 0) (tabulate (λ p. cond (eqb (p / 32) client) states.noSubscription (getD pairs p states.noSubscription)) 256) pairs ⌝ }
 {
+    let most = cleared(number);
     let mut left = pairs;
-    let mut p: usize = 0;
-    while p < 256 {
-        let pair = pairs[p];
-        left[p] = kept(p / 32 == client, pair);
-        p += 1;
+    let mut j: usize = 0;
+    while j < most {
+        left[client * 32 + j] = machine::no_subscription();
+        j += 1;
     }
     left
 }
 
-// A client comes or goes: `k` in its place, no strategy and no report.
-fn with_client(s: State, client: usize, k: Client) -> State
-    requires { ⌜ client < 8 ⌝ }
-    ensures { λ r. ⌜ r ≡ states.withClient s client k ⌝ }
+// The clients with `k` in a place; as they were where the call is declined.
+fn with_newcomer(number: u8, clients: [Client; 8], client: usize, k: Client) -> [Client; 8]
+    requires { ⌜ (number ≡ 0 → client < 8) ⌝ }
+    ensures { λ r. ⌜ r ≡ cond (eqb number 0) (tabulate (λ i. cond (eqb i client) k (getD clients i states.noClient)) 8) clients ⌝ }
 {
-    let pairs = s.subscriptions;
-    let left = without_client(pairs, client);
-    let mut next = s;
-    next.clients[client] = k;
-    next.subscriptions = left;
+    let mut next = clients;
+    if number == 0 {
+        next[client] = k;
+    }
     next
+}
+
+// The answer of a call by which a client comes or goes: `k` in its place, no strategy and no report. A call that a row declines leaves the state.
+fn with_client(number: u8, written: usize, s: State, client: usize, k: Client) -> Answer
+    requires { ⌜ (number ≡ 0 → client < 8) ⌝ }
+    ensures { λ r. ⌜ r ≡ record { number = number; written = written; state = cond (eqb number 0) (states.withClient s client k) s } ⌝ }
+{
+    let sheet = s.sheet;
+    let readings = s.readings;
+    let before = s.clients;
+    let pairs = s.subscriptions;
+    let clients = with_newcomer(number, before, client, k);
+    let left = without_client(number, pairs, client);
+    let next = State {
+        sheet: sheet,
+        clock: s.clock,
+        halted: s.halted,
+        level: s.level,
+        readings: readings,
+        clients: clients,
+        subscriptions: left,
+    };
+    Answer {
+        number: number,
+        written: written,
+        state: next,
+    }
+}
+
+// What is written where a client connects: the versions to it, and its address to the others; nothing where the call is declined.
+fn greet(number: u8, state: State, client: usize, address: &[u8], out: &mut [u8]) -> usize
+    requires { ⌜ (number ≡ 0 → client < 8) ⌝ }
+    ensures { λ r. ⌜ Sent (output (now (out .entry)) 0) (cond (eqb number 0) (connectSends (state .sheet) state client (now (address .entry))) []) (output (now (out .exit)) r) ⌝ }
+{
+    if number != 0 {
+        return 0;
+    }
+    let sheet = state.sheet;
+    let clients = state.clients;
+    let at = informs::deliver_versions(out, 0, client as u8, b"version-connect", 0, sheet);
+    informs::inform_others(out, at, clients, client, b"client-connected", address)
 }
 
 // A client connects: it is told the versions, and the others are told its address.
@@ -138,18 +181,8 @@ pub fn connect(state: State, client: usize, address: &[u8], out: &mut [u8]) -> A
         address_row(address),
     );
     let number = declining::rows(sheet::in_range(state), out.len(), state.halted, own);
-    if number != 0 {
-        return declining::silent(number, state);
-    }
-    let sheet = state.sheet;
-    let at = informs::deliver_versions(out, 0, client as u8, b"version-connect", 0, sheet);
-    let written = informs::inform_others(out, at, clients, client, b"client-connected", address);
-    let next = with_client(state, client, client_at(address));
-    Answer {
-        number: 0,
-        written: written,
-        state: next,
-    }
+    let written = greet(number, state, client, address, out);
+    with_client(number, written, state, client, newcomer(number, address))
 }
 
 // A client is forgotten.
@@ -160,55 +193,92 @@ pub fn disconnect(state: State, client: usize, out: &mut [u8]) -> Answer
     let clients = state.clients;
     let own = declining::client_rows(!declining::is_connected(clients, client), client, 0);
     let number = declining::rows(sheet::in_range(state), out.len(), state.halted, own);
-    if number != 0 {
-        return declining::silent(number, state);
-    }
-    let next = with_client(state, client, machine::blank_client());
-    declining::silent(0, next)
+    with_client(number, 0, state, client, machine::blank_client())
+}
+
+// The clock after a tick to `ms`; as it was where the call is declined.
+fn clock_after(number: u8, ms: u64, clock: u64) -> u64
+    ensures { λ r. ⌜ r ≡ cond (eqb number 0) ms clock ⌝ }
+{
+    if number == 0 { ms } else { clock }
 }
 
 // The clock is set, and every subscription visited.
-pub fn tick(mut state: State, ms: u64, out: &mut [u8]) -> Answer
+pub fn tick(state: State, ms: u64, out: &mut [u8]) -> Answer
     ensures { λ r. ⌜ r ≡ answerOf (step state (calls.callOf (calls.Tick ms) (now (out .entry)))) ⌝ }
     ensures { λ r. ⌜ now (out .exit) ≡ outputOf (step state (calls.callOf (calls.Tick ms) (now (out .entry)))) (now (out .entry)) ⌝ }
 {
     let own = tick_row(state.clock, ms);
     let number = declining::rows(sheet::in_range(state), out.len(), state.halted, own);
-    if number != 0 {
-        return declining::silent(number, state);
-    }
-    state.clock = ms;
-    sampling::visit(state, Cause::Tick, out)
+    let clock = clock_after(number, ms, state.clock);
+    let readings = state.readings;
+    sampling::visit(number, state, Cause::Tick, clock, readings, out)
 }
 
-// A sensor's reading is stored, and the subscriptions to that sensor visited.
-pub fn reading(mut state: State, sensor: usize, reading: Reading, out: &mut [u8]) -> Answer
+// Row 10, behind the rows before it.
+fn sample_row(before: u8, sampled: Sampled) -> u8
+    ensures { λ r. ⌜ r ≡ cond (eqb before 0) (sampledNumber sampled) before ⌝ }
+{
+    if before != 0 {
+        return before;
+    }
+    match sampled {
+        Sampled::As(_) => 0,
+        Sampled::Unfit => 10,
+    }
+}
+
+// The readings with a sensor's, at a clock; as they were where the call is declined.
+fn with_reading(
+    number: u8,
+    readings: [Stored; 32],
+    sensor: usize,
+    sampled: Sampled,
+    clock: u64,
+) -> [Stored; 32]
+    requires { ⌜ sensor < 32 ⌝ }
+    ensures { λ r. ⌜ r ≡ cond (eqb number 0) (readingsAfter readings sensor sampled clock) readings ⌝ }
+{
+    let mut next = readings;
+    if number == 0 {
+        if let Sampled::As(sample) = sampled {
+            next[sensor] = Stored {
+                sample: sample,
+                time: clock,
+            };
+        }
+    }
+    next
+}
+
+// A sensor's reading is stored, and the subscriptions to that sensor visited. Where no sensor has that place, another's type is asked, and row 9
+// decides all the same.
+pub fn reading(state: State, sensor: usize, reading: Reading, out: &mut [u8]) -> Answer
     ensures { λ r. ⌜ r ≡ answerOf (step state (calls.callOf (calls.Reading sensor reading) (now (out .entry)))) ⌝ }
     ensures { λ r. ⌜ now (out .exit) ≡ outputOf (step state (calls.callOf (calls.Reading sensor reading) (now (out .entry)))) (now (out .entry)) ⌝ }
 {
     let sheet = state.sheet;
-    let number = declining::rows(
-        sheet::in_range(state),
-        out.len(),
-        state.halted,
-        sensor_row(sheet.count, sensor),
-    );
-    if number != 0 {
-        return declining::silent(number, state);
-    }
-    let listed = sheet.sensors[sensor];
-    let Sampled::As(sample) = value::sample_of(listed.kind, listed.option_count, reading) else {
-        return declining::silent(10, state);
-    };
-    state.readings[sensor] = Stored {
-        sample: sample,
-        time: state.clock,
-    };
-    sampling::visit(state, Cause::Reading(sensor), out)
+    let stored = state.readings;
+    let own = sensor_row(sheet.count, sensor);
+    let before = declining::rows(sheet::in_range(state), out.len(), state.halted, own);
+    let place = sensor % 32;
+    let listed = sheet.sensors[place];
+    let sampled = value::sample_of(listed.kind, listed.option_count, reading);
+    let number = sample_row(before, sampled);
+    let readings = with_reading(number, stored, place, sampled, state.clock);
+    sampling::visit(
+        number,
+        state,
+        Cause::Reading(place),
+        state.clock,
+        readings,
+        out,
+    )
 }
 
-// What is written of a log entry where the level is set to `set`.
+// What is written of a log entry where the level is set to `set`; nothing where the call is declined.
 fn put_entry(
+    number: u8,
     out: &mut [u8],
     clients: [Client; 8],
     set: u8,
@@ -217,9 +287,9 @@ fn put_entry(
     logger: &[u8],
     message: &[u8],
 ) -> usize
-    ensures { λ r. ⌜ Sent (output (now (out .entry)) 0) (cond (leb level set) (toWhere (λ c. getD clients c states.noClient .connected) (logEntry level clock (now (logger .entry)) (now (message .entry)))) []) (output (now (out .exit)) r) ⌝ }
+    ensures { λ r. ⌜ Sent (output (now (out .entry)) 0) (cond (eqb number 0 && leb level set) (toWhere (λ c. getD clients c states.noClient .connected) (logEntry level clock (now (logger .entry)) (now (message .entry)))) []) (output (now (out .exit)) r) ⌝ }
 {
-    if level <= set {
+    if (number == 0) & (level <= set) {
         return informs::entry_to_all(out, clients, level, clock, logger, message);
     }
     0
@@ -232,11 +302,9 @@ pub fn log(state: State, level: u8, logger: &[u8], message: &[u8], out: &mut [u8
 {
     let own = entry_row(level, logger, message);
     let number = declining::rows(sheet::in_range(state), out.len(), state.halted, own);
-    if number != 0 {
-        return declining::silent(number, state);
-    }
     let clients = state.clients;
     let written = put_entry(
+        number,
         out,
         clients,
         state.level,
@@ -246,7 +314,7 @@ pub fn log(state: State, level: u8, logger: &[u8], message: &[u8], out: &mut [u8
         message,
     );
     Answer {
-        number: 0,
+        number: number,
         written: written,
         state: state,
     }

@@ -1,6 +1,5 @@
 -- The entry to all or nothing, by the test.
 use borrow.Author.Needs.{needs}
-use borrow.Author.Tests.{le-leb, lt-leb}
 use Rattle.message.proofs.DeliveryLaws.{none-sent}
 use Rattle.device.proofs.put_entry.Statement.{statement}
 use Rattle.device.proofs.put_entry.Tie as tie
@@ -12,10 +11,10 @@ same-length : tie.Need-same-length
 same-length c = search needs
 
 returns : tie.Need-returns
-returns c = rw (le-leb _ _ (c .before .before .before .before .if1 .taken)) (c .before .before .entry-to-all .ensures)
+returns c = rw (c .before .before .before .before .if1 .taken) (c .before .before .entry-to-all .ensures)
 
 returns-2 : tie.Need-returns-2
-returns-2 c = rw (lt-leb _ _ (c .if1 .left)) none-sent
+returns-2 c = rw (c .if1 .left) none-sent
 
 pub put-entry-spec : {M : Type 1} → statement M
 put-entry-spec = tie.close (tie.spec entry-to-all-requires same-length returns returns-2)

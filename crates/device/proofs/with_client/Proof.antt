@@ -1,29 +1,21 @@
--- The clients with one stored anew, by place, and the subscriptions that are left.
+-- The clients with one stored anew and the subscriptions without its own, or the state as it was.
 use mathlib.Core.Path.{_≡_}
-use native.Mathlib.Omega.{arith}
-use lib.ListN.{length}
+use lib.Dec.{eqb}
 use borrow.Author.Needs.{needs}
-use Rattle.machine.specs.State.{noClient, withClient}
-use Rattle.machine.proofs.StoreLaws.{set-by-place}
-use Rattle.machine.proofs.ArrayLaws.{clients-many}
+use Rattle.machine.specs.State.{withClient}
+use Rattle.device.proofs.ExitLaws.{placed}
 use Rattle.device.proofs.with_client.Statement.{statement}
 use Rattle.device.proofs.with_client.Tie as tie
+
+with-newcomer-requires : tie.Need-with-newcomer-requires
+with-newcomer-requires c κs = search needs
 
 without-client-requires : tie.Need-without-client-requires
 without-client-requires c κs = search needs
 
-mul-k : tie.Need-mul-k
-mul-k c = search needs
-
-element-set-from-k : tie.Need-element-set-from-k
-element-set-from-k c = search needs
-
 returns : tie.Need-returns
 unfolding withClient
-returns c =
-    let a = c .before .before .args in
-    let e : length (a .s .clients) ≡ 8 = clients-many (a .s) _ (c .before .before .good .0) in
-    rw (set-by-place (a .s .clients) (a .client) (a .k) noClient (omega arith), e, c .without-client .ensures)
+returns c = rw (c .before .with-newcomer .ensures, c .without-client .ensures, placed)
 
 pub with-client-spec : {M : Type 1} → statement M
-with-client-spec = tie.close (tie.spec without-client-requires mul-k element-set-from-k returns)
+with-client-spec = tie.close (tie.spec with-newcomer-requires without-client-requires returns)

@@ -1,65 +1,64 @@
--- The invariant: the subscriptions passed are those without the client's, the others are as they were. The measure is the places that are left.
-use Prim.Native.Nat.{ℕ, _/_, _≤_, _-_}
-use mathlib.Core.Path.{_≡_, refl}
-use mathlib.Core.Bool.{cond}
-use mathlib.Core.List.{List, _++_}
+-- The invariant: the client's first j places are cleared, the others are as they were. The measure is the places that are left.
+use Prim.Native.Nat.{_≤_, _<_, _-_}
 use native.Mathlib.Omega.{arith}
+use mathlib.Core.Path.{_≡_}
 use borrow.Author.Needs.{needs}
-use lib.Dec.{eqb}
-use lib.ListN.{getD, drop}
-use Rattle.machine.specs.declared.Subscription.{Subscription}
 use Rattle.machine.specs.Places.{tabulate}
-use Rattle.machine.specs.State.{noSubscription}
-use Rattle.machine.proofs.StoreLaws.{filled-one, filled-all}
+use Rattle.device.proofs.ClearLaws.{leftAt, clears, cleared-none, cleared-more, cleared-all}
 use Rattle.device.proofs.without_client.Statement.{statement}
 use Rattle.device.proofs.without_client.Tie as tie
 
--- what is left at a place
-abbrev leftAt : List Subscription → ℕ → ℕ → Subscription
-leftAt pairs client p = cond (eqb (p / 32) client) noSubscription (getD pairs p noSubscription)
-
 abbrev Inv-loop : tie.InvT-loop
-Inv-loop client pairs left₀ p₀ left p = (p ≤ 256) × (left ≡ tabulate (leftAt pairs client) p ++ drop p pairs)
+Inv-loop number client most pairs j₀ left j = (j ≤ most) × (left ≡ tabulate (leftAt pairs client j) 256)
 
 abbrev μ-loop : tie.MeasureT-loop
-μ-loop client pairs left₀ p₀ left p = 256 - p
+μ-loop number client most pairs j₀ left j = most - j
+
+cleared-requires : tie.Need-cleared-requires Inv-loop μ-loop
+cleared-requires c κs = search needs
 
 loop-holds : tie.Need-loop-holds Inv-loop μ-loop
-unfolding tabulate
-loop-holds c = (omega arith, refl)
+loop-holds c = (omega arith, cleared-none (c .before .args .pairs) (c .before .args .client) (search needs))
 
-mul-pair : tie.Need-mul-pair Inv-loop μ-loop
-mul-pair c = search needs
+no-subscription-requires : tie.Need-no-subscription-requires Inv-loop μ-loop
+no-subscription-requires c κs = search needs
 
-array-copy-out-pair : tie.Need-array-copy-out-pair Inv-loop μ-loop
-array-copy-out-pair c = search needs
-
-kept-requires : tie.Need-kept-requires Inv-loop μ-loop
-kept-requires c κs = search needs
+-- in a turn the number is 0, so that the client is one of the eight, and j one of its places
+turn : (c : tie.After-no-subscription Inv-loop μ-loop) → (c .before .before .before .before .args .client < 8) × (c .before .before .loop .j < 32)
+turn c =
+    let q = clears (c .before .before .before .before .args .number) (c .before .before .loop .j) (c .before .before .before .cleared .ensures) (c .before .loop-test .taken) in
+    (c .before .before .before .before .pre (q .0), omega arith)
 
 mul-left : tie.Need-mul-left Inv-loop μ-loop
-mul-left c = search needs
+mul-left c = let h = turn c in search needs
+
+add-left : tie.Need-add-left Inv-loop μ-loop
+add-left c = let h = turn c in search needs
+
+mul-left-2 : tie.Need-mul-left-2 Inv-loop μ-loop
+mul-left-2 c = let h = turn c in search needs
 
 array-set-from-left : tie.Need-array-set-from-left Inv-loop μ-loop
-array-set-from-left c = search needs
+array-set-from-left c = let h = turn c in search needs
 
-add-p : tie.Need-add-p Inv-loop μ-loop
-add-p c = search needs
+add-j : tie.Need-add-j Inv-loop μ-loop
+add-j c = search needs
 
 loop-less : tie.Need-loop-less Inv-loop μ-loop
 loop-less c = search needs
 
 loop-again : tie.Need-loop-again Inv-loop μ-loop
-loop-again c = (
-  omega arith,
-  rw (c .before .before .before .loop .inv .1, c .kept .ensures)
-      (filled-one (leftAt (c .before .before .before .before .args .t1) (c .before .before .before .before .args .client)) (c .before .before .before .before .args .t1) (c .before .before .before .loop .p) (search needs)),
-)
+loop-again c =
+    let h = turn c in (
+      omega arith,
+      rw (c .before .before .loop .inv .1, c .no-subscription .ensures) (cleared-more (c .before .before .before .before .args .pairs) (c .before .before .before .before .args .client) (c .before .before .loop .j) (h .0) (h .1)),
+    )
 
 returns : tie.Need-returns Inv-loop μ-loop
 returns c =
-    let e : c .before .loop .p ≡ 256 = omega arith in
-    rw (c .before .loop .inv .1, e) (filled-all (leftAt (c .before .before .args .t1) (c .before .before .args .client)) (c .before .before .args .t1) 256 (search needs))
+    let a = c .before .before .before .args in
+    let end : c .before .loop .j ≡ c .before .before .cleared .result = omega arith in
+    rw (c .before .loop .inv .1, end) (cleared-all (a .pairs) (a .client) (a .number) (c .before .before .cleared .ensures) (search needs))
 
 pub without-client-spec : {M : Type 1} → statement M
 without-client-spec =
@@ -67,13 +66,14 @@ without-client-spec =
     (tie.spec
     Inv-loop
     μ-loop
+    cleared-requires
     loop-holds
-    mul-pair
-    array-copy-out-pair
-    kept-requires
+    no-subscription-requires
     mul-left
+    add-left
+    mul-left-2
     array-set-from-left
-    add-p
+    add-j
     loop-less
     loop-again
     returns)
