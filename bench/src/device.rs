@@ -1,4 +1,4 @@
-//! The device's calls, as its static library has them.
+//! The device's calls, as its static library has them. The functions ask nothing of their arguments, and keep no reference to them.
 
 /// The length of the output that is lent.
 pub const LENT: usize = 65_536;
@@ -28,11 +28,11 @@ extern "C" {
         out: *mut u8,
         out_length: usize,
     ) -> u64;
+
+    fn bench_opens(sheet: *const u8, sheet_length: usize, n: u64) -> u64;
 }
 
-/// n calls of a round on the device of a sheet, whose clients have each sent a
-/// line: how many were taken. The functions ask nothing of their arguments, and
-/// keep no reference to them.
+/// n calls of a round on the device of a sheet, whose clients have each sent a line: how many were taken.
 pub fn calls(round: u8, sheet: &[u8], clients: u8, setup: &[u8], line: &[u8], n: u64) -> u64 {
     let mut out = vec![0; LENT];
     unsafe {
@@ -67,4 +67,9 @@ pub fn checks(sheet: &[u8], clients: u8, setup: &[u8], n: u64) -> u64 {
             out.len(),
         )
     }
+}
+
+/// n openings of a sheet: how many were taken.
+pub fn opens(sheet: &[u8], n: u64) -> u64 {
+    unsafe { bench_opens(sheet.as_ptr(), sheet.len(), n) }
 }

@@ -1,10 +1,14 @@
-//! Nanoseconds a call: the device, the model, and a plain copy of the State in
-//! and out, in one run on one machine.
+//! What a call costs: nanoseconds, beside the model and a plain copy of the State in and out, instructions, bytes copied and stack, and how
+//! it grows with clients and sensors; in one run on one machine.
 
+#[cfg(counted)]
+mod counted;
 mod device;
+mod unit;
 
 use model::{Device, Reading};
 use std::hint::black_box;
+use std::process::Command;
 use std::time::{Duration, Instant};
 
 /// The rounds of the device's library, by their numbers.
@@ -16,10 +20,11 @@ enum Round {
     Line = 3,
 }
 
-/// A row of the table: what is called, on which device.
+/// What is called, on which device.
 struct Case {
     name: &'static str,
     round: Round,
+    sheet: Vec<u8>,
     clients: u8,
     setup: String,
     line: String,
@@ -38,28 +43,23 @@ const WORDS: usize = 3_389;
 struct Bytes([u64; WORDS]);
 
 fn main() {
-    let sheet = sheet();
-    let copy = nanoseconds(20_000, |n| {
-        let mut state = Bytes([1; WORDS]);
-        for _ in 0..n {
-            state = through(black_box(state));
-        }
-        black_box(state.0[0]);
-        n
-    });
-    println!("| call | device, ns | model, ns | copy, ns | device / model | device / copy |");
-    println!("|---|---|---|---|---|---|");
-    for case in cases() {
-        let setup = case.setup.as_bytes();
-        let line = case.line.as_bytes();
-        let device =
-            nanoseconds(case.n, |n| device::calls(case.round as u8, &sheet, case.clients, setup, line, n));
-        let model = nanoseconds(case.n, |n| model_calls(&case, &sheet, n));
-        print_row(case.name, device, Some(model), copy);
+    let words: Vec<String> = std::env::args().skip(1).collect();
+    match words.as_slice() {
+        [] => tables(),
+        [row, n] => run_row(row.parse().expect("a row"), n.parse().expect("a number of calls")),
+        _ => panic!("no words, or a row and a number of calls"),
     }
-    let setup = sampling("event");
-    let checks = nanoseconds(20_000, |n| device::checks(&sheet, 8, setup.as_bytes(), n));
-    print_row("the check of a state alone", checks, None, copy);
+}
+
+/// All tables.
+fn tables() {
+    print_times();
+    println!();
+    print_work();
+    println!();
+    print_stacks();
+    println!();
+    print_growth();
 }
 
 /// The rows: a device of 32 integer sensors.
@@ -67,11 +67,13 @@ fn cases() -> Vec<Case> {
     let case = |name, round, clients, setup: &str, line: &str, n| Case {
         name,
         round,
+        sheet: unit::sheet(32),
         clients,
         setup: setup.to_string(),
         line: line.to_string(),
         n,
     };
+    let sampling = |strategy| unit::sampling(32, strategy);
     let (event, auto, period) = (sampling("event"), sampling("auto"), sampling("period 0.001"));
     let bulk = sampling("differential 10");
     vec![
@@ -86,37 +88,192 @@ fn cases() -> Vec<Case> {
     ]
 }
 
-/// A request that sets a strategy for all 32 sensors.
-fn sampling(strategy: &str) -> String {
-    let names: Vec<String> = (0..32).map(name).collect();
-    format!("?sensor-sampling {} {strategy}", names.join(","))
+/// Behind those: the check of a state, and openings.
+const CHECK: &str = "the check of a state alone";
+const OPEN: &str = "open, 32 integer sensors";
+const OPEN_LARGEST: &str = "open, the largest sheet";
+
+/// The n calls of a row on the device.
+fn device_calls(case: &Case, n: u64) -> u64 {
+    device::calls(case.round as u8, &case.sheet, case.clients, case.setup.as_bytes(), case.line.as_bytes(), n)
 }
 
-/// The name of a sensor.
-fn name(place: usize) -> String {
-    format!("car-{place:02}.load")
+fn device_checks(n: u64) -> u64 {
+    device::checks(&unit::sheet(32), 8, unit::sampling(32, "event").as_bytes(), n)
 }
 
-/// A sheet of 32 integer sensors with four limits.
-fn sheet() -> Vec<u8> {
-    let mut bytes = b"LGU\0\x01\x07lgu-1.0\x02b7\x20".to_vec();
-    for place in 0..32 {
-        for text in [name(place).as_str(), "Load of a car.", "kg"] {
-            bytes.push(text.len() as u8);
-            bytes.extend_from_slice(text.as_bytes());
+/// The calls of a row, for a program that watches this one.
+fn run_row(row: usize, n: u64) {
+    let cases = cases();
+    let taken = match row.checked_sub(cases.len()) {
+        None => device_calls(&cases[row], n),
+        Some(0) => device_checks(n),
+        Some(1) => device::opens(&unit::sheet(32), n),
+        _ => device::opens(&unit::largest_sheet(), n),
+    };
+    assert_eq!(taken, n, "calls that were taken");
+}
+
+/// Nanoseconds a call.
+fn print_times() {
+    let copy = nanoseconds(20_000, TIMES, |n| {
+        let mut state = Bytes([1; WORDS]);
+        for _ in 0..n {
+            state = through(black_box(state));
         }
-        bytes.extend_from_slice(&[1, 4]);
-        for limit in [0i32, 1000, -5, 1200] {
-            bytes.extend_from_slice(&limit.to_be_bytes());
-        }
+        black_box(state.0[0]);
+        n
+    });
+    println!("| call | device, ns | model, ns | copy, ns | device / model | device / copy |");
+    println!("|---|---|---|---|---|---|");
+    for case in cases() {
+        let device = nanoseconds(case.n, TIMES, |n| device_calls(&case, n));
+        let model = nanoseconds(case.n, TIMES, |n| model_calls(&case, n));
+        print_times_row(case.name, device, Some(model), copy);
     }
-    bytes
+    print_times_row(CHECK, nanoseconds(20_000, TIMES, device_checks), None, copy);
+    for (name, sheet) in [(OPEN, unit::sheet(32)), (OPEN_LARGEST, unit::largest_sheet())] {
+        let device = nanoseconds(2_000, TIMES, |n| device::opens(&sheet, n));
+        let model = nanoseconds(2_000, TIMES, |n| (0..n).filter(|_| Device::open(&sheet).0 == 0).count() as u64);
+        print_times_row(name, device, Some(model), copy);
+    }
+}
+
+fn print_times_row(name: &str, device: f64, model: Option<f64>, copy: f64) {
+    let (ns, ratio) = match model {
+        Some(model) => (format!("{model:.0}"), format!("{:.1}", device / model)),
+        None => ("–".to_string(), "–".to_string()),
+    };
+    println!("| {name} | {device:.0} | {ns} | {copy:.0} | {ratio} | {:.1} |", device / copy);
+}
+
+/// Instructions and bytes copied, a call.
+fn print_work() {
+    println!("| call | instructions | bytes copied | in States |");
+    println!("|---|---|---|---|");
+    let cases = cases();
+    let names = cases.iter().map(|case| case.name).chain([CHECK, OPEN, OPEN_LARGEST]);
+    for (row, name) in names.enumerate() {
+        let instructions = instructions(row).map_or("–".to_string(), |count| count.to_string());
+        let (bytes, states) = match copied(&cases, row) {
+            Some(bytes) => (bytes.to_string(), format!("{:.1}", bytes as f64 / (8 * WORDS) as f64)),
+            None => ("–".to_string(), "–".to_string()),
+        };
+        println!("| {name} | {instructions} | {bytes} | {states} |");
+    }
+}
+
+/// Instructions a call of a row takes, as callgrind counts them, where it is at hand.
+fn instructions(row: usize) -> Option<u64> {
+    const N: u64 = 100;
+    let counted = |n: u64| {
+        let run = Command::new("valgrind")
+            .args(["--tool=callgrind", "--callgrind-out-file=/dev/null"])
+            .arg(std::env::current_exe().ok()?)
+            .args([row.to_string(), n.to_string()])
+            .output()
+            .ok()?;
+        let said = String::from_utf8_lossy(&run.stderr).into_owned();
+        let count = said.lines().find_map(|line| line.split_once("Collected : "))?.1;
+        count.trim().parse::<u64>().ok()
+    };
+    Some((counted(N)? - counted(0)?) / N)
+}
+
+/// Bytes that a call of a row copies, where they are counted.
+#[cfg(counted)]
+fn copied(cases: &[Case], row: usize) -> Option<u64> {
+    Some(match row.checked_sub(cases.len()) {
+        None => {
+            let case = &cases[row];
+            let (setup, line) = (case.setup.as_bytes(), case.line.as_bytes());
+            counted::call_bytes(case.round as u8, &case.sheet, case.clients, setup, line)
+        }
+        Some(0) => counted::check_bytes(&unit::sheet(32), 8, unit::sampling(32, "event").as_bytes()),
+        Some(1) => counted::open_bytes(&unit::sheet(32)),
+        _ => counted::open_bytes(&unit::largest_sheet()),
+    })
+}
+
+#[cfg(not(counted))]
+fn copied(_: &[Case], _: usize) -> Option<u64> {
+    None
+}
+
+/// The stack that a call uses.
+#[cfg(counted)]
+fn print_stacks() {
+    println!("| call | stack, bytes |");
+    println!("|---|---|");
+    let sheet = unit::sheet(32);
+    for (name, bytes) in counted::stacks(&sheet) {
+        println!("| {name} | {bytes} |");
+    }
+    let bulk = unit::sampling(32, "differential 10");
+    for line in ["?watchdog", "?sensor-value", &bulk, "?help", "?restart", "?no-such-request", "!reply"] {
+        let name = line.split(' ').next().unwrap_or(line);
+        println!("| line, `{name}` | {} |", counted::line_stack(&sheet, line.as_bytes()));
+    }
+}
+
+#[cfg(not(counted))]
+fn print_stacks() {
+    println!("objcopy is missing: copies and stack are not counted.");
+}
+
+/// Nanoseconds a call, by the numbers of sensors and of clients.
+fn print_growth() {
+    const SIZES: [(usize, u8); 9] =
+        [(0, 0), (0, 1), (0, 8), (1, 0), (1, 1), (1, 8), (32, 0), (32, 1), (32, 8)];
+    let sizes: Vec<String> = SIZES.iter().map(|(sensors, clients)| format!("{sensors}, {clients}")).collect();
+    println!("| sensors, clients | {} |", sizes.join(" | "));
+    println!("|---|{}", "---|".repeat(SIZES.len()));
+    print_growth_row("tick, nothing due", &SIZES, |sensors, clients| {
+        Some(grown(Round::Tick, sensors, clients, "event", ""))
+    });
+    print_growth_row("tick, all due", &SIZES, |sensors, clients| {
+        Some(grown(Round::Tick, sensors, clients, "period 0.001", ""))
+    });
+    print_growth_row("reading, silent", &SIZES, |sensors, clients| {
+        (sensors > 0).then(|| grown(Round::Reading, sensors, clients, "event", ""))
+    });
+    print_growth_row("`?watchdog`", &SIZES, |sensors, clients| {
+        (clients > 0).then(|| grown(Round::Line, sensors, clients, "event", "?watchdog"))
+    });
+    print_growth_row("the check alone", &SIZES, |sensors, clients| {
+        let (sheet, setup) = (unit::sheet(sensors), unit::sampling(sensors, "event"));
+        Some(nanoseconds(GROWN_CALLS, GROWN_TIMES, |n| device::checks(&sheet, clients, setup.as_bytes(), n)))
+    });
+    print_growth_row("open", &SIZES, |sensors, clients| {
+        let sheet = unit::sheet(sensors);
+        (clients == 0).then(|| nanoseconds(GROWN_CALLS, GROWN_TIMES, |n| device::opens(&sheet, n)))
+    });
+}
+
+/// Calls and measurements for the table of growth.
+const GROWN_CALLS: u64 = 4_000;
+const GROWN_TIMES: usize = 7;
+
+/// Nanoseconds a call of a round on a unit of that size.
+fn grown(round: Round, sensors: usize, clients: u8, strategy: &str, line: &str) -> f64 {
+    let (sheet, setup) = (unit::sheet(sensors), unit::sampling(sensors, strategy));
+    nanoseconds(GROWN_CALLS, GROWN_TIMES, |n| {
+        device::calls(round as u8, &sheet, clients, setup.as_bytes(), line.as_bytes(), n)
+    })
+}
+
+fn print_growth_row(name: &str, sizes: &[(usize, u8)], cost: impl Fn(usize, u8) -> Option<f64>) {
+    let costs: Vec<String> = sizes
+        .iter()
+        .map(|&(sensors, clients)| cost(sensors, clients).map_or("–".to_string(), |ns| format!("{ns:.0}")))
+        .collect();
+    println!("| {name} | {} |", costs.join(" | "));
 }
 
 /// The same n calls on the model.
-fn model_calls(case: &Case, sheet: &[u8], n: u64) -> u64 {
+fn model_calls(case: &Case, n: u64) -> u64 {
     let mut out = Vec::new();
-    let (_, mut device) = Device::open(sheet);
+    let (_, mut device) = Device::open(&case.sheet);
     for client in 0..usize::from(case.clients) {
         device.connect(device::LENT, client, b"bench", &mut out);
         device.line(device::LENT, client, case.setup.as_bytes(), &mut out);
@@ -142,13 +299,13 @@ fn through(state: Bytes) -> Bytes {
 }
 
 /// Nanoseconds a call, without what 0 calls cost. All calls must be taken.
-fn nanoseconds(n: u64, run: impl Fn(u64) -> u64) -> f64 {
-    shortest(n, &run).saturating_sub(shortest(0, &run)).as_nanos() as f64 / n as f64
+fn nanoseconds(n: u64, times: usize, run: impl Fn(u64) -> u64) -> f64 {
+    shortest(n, times, &run).saturating_sub(shortest(0, times, &run)).as_nanos() as f64 / n as f64
 }
 
 /// The shortest time that n calls took.
-fn shortest(n: u64, run: &impl Fn(u64) -> u64) -> Duration {
-    (0..TIMES).map(|_| time(n, run)).min().unwrap_or_default()
+fn shortest(n: u64, times: usize, run: &impl Fn(u64) -> u64) -> Duration {
+    (0..times).map(|_| time(n, run)).min().unwrap_or_default()
 }
 
 /// How long n calls take.
@@ -157,13 +314,4 @@ fn time(n: u64, run: &impl Fn(u64) -> u64) -> Duration {
     let taken = black_box(run(n));
     assert_eq!(taken, n, "calls that were taken");
     start.elapsed()
-}
-
-/// A row of the table.
-fn print_row(name: &str, device: f64, model: Option<f64>, copy: f64) {
-    let (ns, ratio) = match model {
-        Some(model) => (format!("{model:.0}"), format!("{:.1}", device / model)),
-        None => ("–".to_string(), "–".to_string()),
-    };
-    println!("| {name} | {device:.0} | {ns} | {copy:.0} | {ratio} | {:.1} |", device / copy);
 }

@@ -7,10 +7,9 @@ use mathlib.Core.Bool.{Bool, true, false, cond}
 use mathlib.Core.List.{List}
 use Rattle.machine.specs.declared.State.{State}
 use Rattle.machine.specs.declared.Answer.{Answer}
-use lib.Dec.{eqb}
 use Rattle.machine.specs.Declined.{Action, callOf}
 use Rattle.machine.specs.Machine.{step, answerOf, outputOf}
-use Rattle.bench.specs.Runs.{Run, begun, runs, repeated}
+use Rattle.bench.specs.Runs.{Run, isTaken, begun, runs, repeated}
 
 -- the state, the count and the output after k calls
 pub record Reached (act : ℕ → Action) (r : Run) (k : ℕ) (s : State) (t : ℕ) (out : List ℕ) : Type 0 where
@@ -24,19 +23,14 @@ module _ (act : ℕ → Action) where
   starts s out = record { state-is = refl; taken-is = refl; output-is = refl }
 
   pub goes-on : {r : Run} {k t u : ℕ} {s : State} {out after : List ℕ} {a : Answer} → Reached act r k s t out → a ≡ answerOf (step s (callOf (act k) out))
-      → after ≡ outputOf (step s (callOf (act k) out)) out → u ≡ cond (eqb (a .number) 0) (t + 1) t → Reached act r (k + 1) (a .state) u after
+      → after ≡ outputOf (step s (callOf (act k) out)) out → u ≡ cond (isTaken a after) (t + 1) t → Reached act r (k + 1) (a .state) u after
   unfolding runs
   goes-on {k = k} {t = t} h e f g =
       record {
         state-is = rw (e, h .state-is, h .output-is, add-one k);
-        taken-is = rw (g, e, add-one t, h .taken-is, h .state-is, h .output-is, add-one k);
+        taken-is = rw (g, e, f, add-one t, h .taken-is, h .state-is, h .output-is, add-one k);
         output-is = rw (f, h .state-is, h .output-is, add-one k);
       }
-
--- no more are taken than are made
-pub few : (b : Bool) {t u k : ℕ} → u ≡ cond b (t + 1) t → t ≤ k → u ≤ k + 1
-few true e h = omega arith
-few false e h = omega arith
 
 -- a count that is k or 0
 pub at-most : (b : Bool) (k : ℕ) {p : ℕ} → p ≡ cond b k 0 → p ≤ k

@@ -1,21 +1,23 @@
 -- Calls made one after another on one device, for measuring: each is lent the output as the last one left it.
 use Prim.Native.Nat.{ℕ, zero, suc, _*_, _/_, _%_}
-use mathlib.Core.Bool.{cond}
+use mathlib.Core.Bool.{Bool, cond, _&&_}
 use mathlib.Core.List.{List}
-use lib.Dec.{eqb}
+use lib.Dec.{eqb, leb}
+use lib.ListN.{length}
 use lib.IntN.{pos}
 use Rattle.output.specs.Text.{text}
 use Rattle.value.specs.declared.Reading.the-variants.{Integer}
 use Rattle.machine.specs.declared.State.{State}
+use Rattle.machine.specs.declared.Answer.{Answer}
 use Rattle.machine.specs.Opening.{opened}
 use Rattle.machine.specs.Declined.{Action, callOf}
 use Rattle.machine.specs.Declined as calls
-use Rattle.machine.specs.Machine.{Effect, step, outputOf}
+use Rattle.machine.specs.Machine.{Effect, step, answerOf, outputOf}
 use Rattle.bench.specs.declared.Repeated.{Repeated}
 use Rattle.bench.specs.declared.Round.{Round}
 use Rattle.bench.specs.declared.Round.the-variants as rounds
 
--- the state after some calls, how many of them were taken (number 0), and the output
+-- the state after some calls, how many of them were taken (number 0, and a count that the output holds), and the output
 pub record Run : Type 0 where
   pub state : State
   pub taken : ℕ
@@ -29,9 +31,14 @@ repeated r = record { state = r .state; taken = r .taken }
 abbrev pub begun : State → List ℕ → Run
 begun s out = record { state = s; taken = 0; out = out }
 
+-- an answer of number 0 whose count the output holds
+abbrev pub isTaken : Answer → List ℕ → Bool
+isTaken a out = eqb (a .number) 0 && leb (a .written) (length out)
+
 -- one more, that came to e
 abbrev pub more : Run → Effect → Run
-more r e = record { state = e .next; taken = cond (eqb (e .number) 0) (suc (r .taken)) (r .taken); out = outputOf e (r .out) }
+more r e =
+    record { state = e .next; taken = cond (isTaken (answerOf e) (outputOf e (r .out))) (suc (r .taken)) (r .taken); out = outputOf e (r .out) }
 
 -- n calls, of which call k is `act k`
 unfoldable pub runs : (ℕ → Action) → Run → ℕ → Run
@@ -62,3 +69,19 @@ prepared sheet clients setup out = runs (roundAction rounds.Setup setup) (begun 
 -- n calls of a round on a device that was prepared
 unfoldable pub measured : Round → List ℕ → Run → ℕ → Run
 measured round line ready n = runs (roundAction round line) (begun (ready .state) (ready .out)) n
+
+-- a call on the device of a sheet that was just opened
+abbrev pub onFresh : List ℕ → Action → List ℕ → Effect
+onFresh sheet action out = step (opened sheet .state) (callOf action out)
+
+-- client 0 connects to it
+abbrev pub greeting : List ℕ → List ℕ → Effect
+greeting sheet out = onFresh sheet (calls.Connect 0 (text "bench")) out
+
+-- the output then
+abbrev pub connectedOut : List ℕ → List ℕ → List ℕ
+connectedOut sheet out = outputOf (greeting sheet out) out
+
+-- and a call behind that
+abbrev pub onConnected : List ℕ → Action → List ℕ → Effect
+onConnected sheet action out = step (greeting sheet out .next) (callOf action (connectedOut sheet out))

@@ -1,14 +1,19 @@
 //! Calls made n times inside one function, for measuring from Rust: a sheet is opened, clients are connected and each sends a line, and then the
-//! call is made n times. What is answered is how many of the n calls were taken.
+//! call is made n times. What is answered is how many of the n calls were taken. And each call made once, on a device just opened, for what it
+//! needs of the stack.
 use machine::Answer;
 use machine::State;
 use value::Reading;
 ghost use mathlib.Core.Path.{_≡_};
 ghost use mathlib.Core.Bool.{cond};
 ghost use mathlib.Core.List.{[]};
-ghost use Prim.Native.Nat.{_+_, _-_, _^_, _<_};
+ghost use Prim.Native.Nat.{_+_, _-_, _^_, _<_, _≤_};
+ghost use lib.Dec.{eqb};
+ghost use Rattle.output.specs.Text.{text};
 ghost use Rattle.machine.specs.Range.{inRange};
+ghost use Rattle.machine.specs.Opening.{opened};
 ghost use Rattle.machine.specs.Declined.{callOf};
+ghost use Rattle.machine.specs.Declined as calls;
 ghost use Rattle.machine.specs.Machine.{step, answerOf, outputOf};
 ghost use Rattle.bench.specs.Runs as spec;
 ghost use Rattle.bench.specs.declared.Round.the-variants as rounds;
@@ -69,7 +74,7 @@ fn turn(state: State, round: Round, line: &[u8], k: u64, out: &mut [u8]) -> Answ
 // One more, where it counts.
 fn counted(n: u64, counts: bool) -> u64
     requires { ⌜ n < 2 ^ 64 - 1 ⌝ }
-    ensures { λ r. ⌜ r ≡ cond counts (n + 1) n ⌝ }
+    ensures { λ r. ⌜ (r ≡ cond counts (n + 1) n) × (r ≤ n + 1) ⌝ }
 {
     if counts { n + 1 } else { n }
 }
@@ -84,7 +89,7 @@ fn repeat(first: State, round: Round, line: &[u8], n: u64, out: &mut [u8]) -> Re
     let mut k: u64 = 0;
     while k < n {
         let answer = turn(state, round, line, k, out);
-        taken = counted(taken, answer.number == 0);
+        taken = counted(taken, (answer.number == 0) & (answer.written <= out.len()));
         state = answer.state;
         k += 1;
     }
@@ -135,6 +140,21 @@ pub extern "C" fn bench_calls(
     done.taken
 }
 
+// n openings of a sheet: how many were taken.
+#[no_mangle]
+pub extern "C" fn bench_opens(sheet: &[u8], n: u64) -> u64
+    ensures { λ r. ⌜ r ≡ cond (eqb (opened (now (sheet .entry)) .number) 0) n 0 ⌝ }
+{
+    let mut taken: u64 = 0;
+    let mut k: u64 = 0;
+    while k < n {
+        let device = device::open(sheet);
+        taken = counted(taken, device.number == 0);
+        k += 1;
+    }
+    taken
+}
+
 // n checks of a state.
 fn check(state: State, n: u64) -> u64
     ensures { λ r. ⌜ r ≡ cond (inRange state) n 0 ⌝ }
@@ -162,4 +182,72 @@ pub extern "C" fn bench_checks(
 {
     let state = prepare(sheet, clients, setup, out);
     check(state, n)
+}
+
+// Client 0 connects to the device of a sheet: the number of the call.
+#[no_mangle]
+pub extern "C" fn bench_connect(sheet: &[u8], out: &mut [u8]) -> u8
+    ensures { λ r. ⌜ r ≡ spec.onFresh (now (sheet .entry)) (calls.Connect 0 (text "bench")) (now (out .entry)) .number ⌝ }
+    ensures { λ r. ⌜ now (out .exit) ≡ outputOf (spec.onFresh (now (sheet .entry)) (calls.Connect 0 (text "bench")) (now (out .entry))) (now (out .entry)) ⌝ }
+{
+    let fresh = device::open(sheet);
+    let answer = device::connect(fresh.state, 0, b"bench", out);
+    answer.number
+}
+
+// A tick.
+#[no_mangle]
+pub extern "C" fn bench_tick(sheet: &[u8], out: &mut [u8]) -> u8
+    ensures { λ r. ⌜ r ≡ spec.onFresh (now (sheet .entry)) (calls.Tick 1) (now (out .entry)) .number ⌝ }
+    ensures { λ r. ⌜ now (out .exit) ≡ outputOf (spec.onFresh (now (sheet .entry)) (calls.Tick 1) (now (out .entry))) (now (out .entry)) ⌝ }
+{
+    let fresh = device::open(sheet);
+    let answer = device::tick(fresh.state, 1, out);
+    answer.number
+}
+
+// A reading of sensor 0.
+#[no_mangle]
+pub extern "C" fn bench_reading(sheet: &[u8], out: &mut [u8]) -> u8
+    ensures { λ r. ⌜ r ≡ spec.onFresh (now (sheet .entry)) (spec.roundAction rounds.Reading [] 0) (now (out .entry)) .number ⌝ }
+    ensures { λ r. ⌜ now (out .exit) ≡ outputOf (spec.onFresh (now (sheet .entry)) (spec.roundAction rounds.Reading [] 0) (now (out .entry))) (now (out .entry)) ⌝ }
+{
+    let fresh = device::open(sheet);
+    let answer = device::reading(fresh.state, 0, Reading::Integer(7), out);
+    answer.number
+}
+
+// A log entry.
+#[no_mangle]
+pub extern "C" fn bench_log(sheet: &[u8], out: &mut [u8]) -> u8
+    ensures { λ r. ⌜ r ≡ spec.onFresh (now (sheet .entry)) (calls.Log 1 (text "bench") (text "bench")) (now (out .entry)) .number ⌝ }
+    ensures { λ r. ⌜ now (out .exit) ≡ outputOf (spec.onFresh (now (sheet .entry)) (calls.Log 1 (text "bench") (text "bench")) (now (out .entry))) (now (out .entry)) ⌝ }
+{
+    let fresh = device::open(sheet);
+    let answer = device::log(fresh.state, 1, b"bench", b"bench", out);
+    answer.number
+}
+
+// Client 0 has connected, and is disconnected.
+#[no_mangle]
+pub extern "C" fn bench_disconnect(sheet: &[u8], out: &mut [u8]) -> u8
+    ensures { λ r. ⌜ r ≡ spec.onConnected (now (sheet .entry)) (calls.Disconnect 0) (now (out .entry)) .number ⌝ }
+    ensures { λ r. ⌜ now (out .exit) ≡ outputOf (spec.onConnected (now (sheet .entry)) (calls.Disconnect 0) (now (out .entry))) (spec.connectedOut (now (sheet .entry)) (now (out .entry))) ⌝ }
+{
+    let fresh = device::open(sheet);
+    let greeted = device::connect(fresh.state, 0, b"bench", out);
+    let answer = device::disconnect(greeted.state, 0, out);
+    answer.number
+}
+
+// Client 0 has connected, and sends a line.
+#[no_mangle]
+pub extern "C" fn bench_line(sheet: &[u8], line: &[u8], out: &mut [u8]) -> u8
+    ensures { λ r. ⌜ r ≡ spec.onConnected (now (sheet .entry)) (calls.Line 0 (now (line .entry))) (now (out .entry)) .number ⌝ }
+    ensures { λ r. ⌜ now (out .exit) ≡ outputOf (spec.onConnected (now (sheet .entry)) (calls.Line 0 (now (line .entry))) (now (out .entry))) (spec.connectedOut (now (sheet .entry)) (now (out .entry))) ⌝ }
+{
+    let fresh = device::open(sheet);
+    let greeted = device::connect(fresh.state, 0, b"bench", out);
+    let answer = device::line(greeted.state, 0, line, out);
+    answer.number
 }

@@ -301,13 +301,14 @@ pub fn same(a: &[u8], b: &[u8]) -> bool
     if a.len() != b.len() {
         return false;
     }
-    let mut ok = true;
     let mut i = 0;
     while i < a.len() {
-        ok = ok & (a[i] == b[i]);
+        if a[i] != b[i] {
+            return false;
+        }
         i += 1;
     }
-    ok
+    true
 }
 
 // The first word at or after `from`; where there is none, an empty one.

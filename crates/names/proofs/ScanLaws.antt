@@ -12,13 +12,42 @@ use Rattle.output.specs.Text.{run, same}
 use Rattle.output.proofs.RunLaws.{run-le, run-take}
 use Rattle.line.proofs.At.{to-end}
 use Rattle.machine.specs.declared.Sheet.{Sheet}
-use Rattle.machine.specs.Places.{any, twice}
+use Rattle.machine.specs.Places.{any, firstBelow, twice}
 use Rattle.machine.specs.Sheet.{sensorOf, nameOf}
+use Rattle.machine.proofs.FirstLaws.{first-on, first-at}
 use Rattle.machine.proofs.PlacesLaws.{first-most}
 use Rattle.names.specs.declared.Listed.{Listed}
 use Rattle.names.specs.Scan.{held, placeIn, isPast, listing, Places, distinctly, withPlace, scanned, inName, placesNamed}
 use Rattle.names.proofs.ListingLaws.{places-none, places-with, with-distinctly}
 use Rattle.names.proofs.SplitLaws.{split-last, split-more}
+
+-- The search of a name.
+
+-- the sensor at a place has the name
+abbrev pub named : Sheet → List ℕ → ℕ → Bool
+named sheet name j = same (nameOf (sensorOf sheet j)) name
+
+-- no place before j has it
+pub record Searching (sheet : Sheet) (name : List ℕ) (j : ℕ) : Type 0 where
+  pub within : j ≤ held sheet
+  pub passed : firstBelow (named sheet name) j ≡ j
+
+pub searching : (sheet : Sheet) (name : List ℕ) → Searching sheet name 0
+unfolding firstBelow
+searching sheet name = record { within = omega arith; passed = refl }
+
+module _ {sheet : Sheet} {name : List ℕ} {j : ℕ} (f : Searching sheet name j) where
+  pub searching-on : named sheet name j ≡ false → j < held sheet → Searching sheet name (j + 1)
+  searching-on h k = record { within = omega arith; passed = first-on (named sheet name) j (f .passed) h }
+
+  -- the place is found, or no sensor has the name
+  pub searching-found : named sheet name j ≡ true → j < held sheet → j ≡ placeIn sheet name
+  unfolding placeIn
+  searching-found h k = sym (first-at (named sheet name) j (f .passed) h (held sheet) k)
+
+  pub searching-none : held sheet ≤ j → j ≡ placeIn sheet name
+  unfolding placeIn
+  searching-none k = let e : j ≡ held sheet = omega (arith, f .within) in sym (f .passed) ∙ ap (firstBelow (named sheet name)) e
 
 -- a place that is not the count is that of a sensor
 pub place-known : (sheet : Sheet) (name : List ℕ) {j : ℕ} → j ≡ placeIn sheet name → (j ≡ held sheet → ⊥) → j < held sheet

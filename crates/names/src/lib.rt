@@ -43,22 +43,6 @@ fn has_name(sensor: Sensor, name: &[u8]) -> bool
     line::same(output::prefix(&own, sensor.name_len as usize), name)
 }
 
-// The place of the sensor with that name, or the count of the sensors where none has it.
-pub fn place_of(sheet: Sheet, name: &[u8]) -> usize
-    ensures { λ r. ⌜ r ≡ scans.placeIn sheet (now (name .entry)) ⌝ }
-{
-    let most = held(sheet.count);
-    let mut j: usize = 0;
-    while j < most {
-        let sensor = sheet.sensors[j];
-        if has_name(sensor, name) {
-            return j;
-        }
-        j += 1;
-    }
-    j
-}
-
 // The length of the first name of a comma list.
 fn first_len(names: &[u8]) -> usize
     ensures { λ r. ⌜ r ≡ length (texts.run scans.inName (now (names .entry))) ⌝ }
@@ -107,7 +91,8 @@ fn with_place(list: Listed, j: usize) -> Listed
     }
 }
 
-// The sensors of a comma list. It is left at the first unknown name, so nothing behind that is looked at.
+// The sensors of a comma list. It is left at the first unknown name, so nothing behind that is looked at. The sheet is searched here, and not
+// in a function of its own: that would be handed a copy of it for each name.
 pub fn scan(sheet: Sheet, names: &[u8]) -> Listed
     ensures { λ r. ⌜ r ≡ scans.scanned sheet (scans.placesNamed sheet (now (names .entry))) ⌝ }
 {
@@ -116,7 +101,14 @@ pub fn scan(sheet: Sheet, names: &[u8]) -> Listed
     let mut from: usize = 0;
     'names: while from <= names.len() {
         let to = from + first_len(&names[from..]);
-        let j = place_of(sheet, &names[from..to]);
+        let mut j: usize = 0;
+        'sensors: while j < most {
+            let sensor = sheet.sensors[j];
+            if has_name(sensor, &names[from..to]) {
+                break 'sensors;
+            }
+            j += 1;
+        }
         if j == most {
             list = no_places(16);
             break 'names;

@@ -35,7 +35,7 @@ loop-less c = omega arith
 loop-again : tie.Need-loop-again Inv-loop μ-loop
 loop-again c =
     let l = c .before .before .before in
-    (omega arith, one-more (inRange (l .before .args .state)) (l .loop .k) (c .before .in-range .ensures) (l .loop .inv .1) (c .counted .ensures))
+    (omega arith, one-more (inRange (l .before .args .state)) (l .loop .k) (c .before .in-range .ensures) (l .loop .inv .1) (c .counted .ensures .0))
 
 returns : tie.Need-returns Inv-loop μ-loop
 returns c =

@@ -1,12 +1,11 @@
 -- After k turns the device, the count and the output are those of k calls.
 use Prim.Native.Nat.{_≤_, _-_}
 use mathlib.Core.Path.{_≡_}
-use lib.Dec.{eqb}
 use lib.ListN.{length}
 use borrow.Author.Needs.{needs}
 use native.Mathlib.Omega.{arith}
 use Rattle.bench.specs.Runs.{begun, roundAction}
-use Rattle.bench.proofs.RunLaws.{Reached, starts, goes-on, few, ends}
+use Rattle.bench.proofs.RunLaws.{Reached, starts, goes-on, ends}
 use Rattle.bench.proofs.repeat.Statement.{statement}
 use Rattle.bench.proofs.repeat.Tie as tie
 
@@ -34,9 +33,9 @@ loop-less c = omega arith
 
 loop-again : tie.Need-loop-again Inv-loop μ-loop
 loop-again c =
-    let h = c .before .before .before .before .before .before .before .before .loop .inv in
-    let t = c .before .before .before .before .before .turn .ensures in
-    (omega arith, few (eqb (c .before .before .before .before .before .turn .result .number) 0) (c .before .counted .ensures) (h .1), search needs, goes-on _ (h .3) (t .0) (t .1) (c .before .counted .ensures))
+    let h = c .before .before .before .before .before .before .before .before .before .loop .inv in
+    let t = c .before .before .before .before .before .before .turn in
+    (omega arith, omega (arith, c .before .counted .ensures .1), search needs, goes-on _ (h .3) (t .ensures .0) (t .ensures .1) (c .before .counted .ensures .0))
 
 same-length : tie.Need-same-length Inv-loop μ-loop
 same-length c = search needs

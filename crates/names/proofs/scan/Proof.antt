@@ -1,87 +1,129 @@
--- The names passed are known, and what is listed of them and what the rest names are what the whole names.
+-- The names passed are known, and what is listed of them and what the rest names are what the whole names; of the sensors passed none has the
+-- name at hand.
 use borrow.Author.Needs.{needs}
 use Prim.Native.Nat.{suc, _+_, _-_, _≤_, _<_}
 use native.Mathlib.Omega.{arith}
-use mathlib.Core.Path.{sym, _∙_}
-use lib.ListN.{length}
-use Rattle.names.specs.Scan.{held}
-use Rattle.names.proofs.ScanLaws.{Scanning, scanning, name-inside, known, scanning-on, scanning-unknown, scanning-end}
+use mathlib.Core.Path.{_≡_, sym, _∙_}
+use mathlib.Core.Logic.{⊎-elim}
+use lib.ListN.{length, take, drop}
+use Rattle.names.specs.Scan.{held, placeIn}
+use Rattle.names.proofs.ScanLaws.{Searching, searching, searching-on, searching-found, searching-none, Scanning, scanning, name-inside, known, scanning-on, scanning-unknown, scanning-end}
 use Rattle.names.proofs.scan.Statement.{statement}
 use Rattle.names.proofs.scan.Tie as tie
 
+abbrev Inv-sensors : tie.InvT-sensors
+Inv-sensors names sheet most list from to j₀ j = Searching sheet (take (to - from) (drop from names)) j
+
+abbrev μ-sensors : tie.MeasureT-sensors
+μ-sensors names sheet most list from to j₀ j = most - j
+
 abbrev Inv-names : tie.InvT-names
-Inv-names sheet names most list₀ from₀ list from = Scanning sheet names list from
+Inv-names names sheet most list₀ from₀ list from = Scanning sheet names list from
 
 abbrev μ-names : tie.MeasureT-names
-μ-names sheet names most list₀ from₀ list from = suc (length names) - from
+μ-names names sheet most list₀ from₀ list from = suc (length names) - from
 
-held-requires : tie.Need-held-requires Inv-names μ-names
+held-requires : tie.Need-held-requires Inv-sensors μ-sensors Inv-names μ-names
 held-requires c κs = search needs
 
-no-places-requires : tie.Need-no-places-requires Inv-names μ-names
+no-places-requires : tie.Need-no-places-requires Inv-sensors μ-sensors Inv-names μ-names
 no-places-requires c κs = search needs
 
-names-holds : tie.Need-names-holds Inv-names μ-names
-names-holds c = scanning (c .before .before .before .args .sheet) (c .before .before .before .args .names .now) (c .no-places .ensures)
+names-holds : tie.Need-names-holds Inv-sensors μ-sensors Inv-names μ-names
+names-holds c = scanning _ _ (c .no-places .ensures)
 
-sub-first-len : tie.Need-sub-first-len Inv-names μ-names
+sub-first-len : tie.Need-sub-first-len Inv-sensors μ-sensors Inv-names μ-names
 sub-first-len c = search needs
 
-part-first-len-start : tie.Need-part-first-len-start Inv-names μ-names
+part-first-len-start : tie.Need-part-first-len-start Inv-sensors μ-sensors Inv-names μ-names
 part-first-len-start c = search needs
 
-part-first-len-end : tie.Need-part-first-len-end Inv-names μ-names
+part-first-len-end : tie.Need-part-first-len-end Inv-sensors μ-sensors Inv-names μ-names
 part-first-len-end c = search needs
 
-first-len-requires : tie.Need-first-len-requires Inv-names μ-names
+first-len-requires : tie.Need-first-len-requires Inv-sensors μ-sensors Inv-names μ-names
 first-len-requires c κs = search needs
 
-inside : (c : tie.After-first-len Inv-names μ-names) → c .before .before .before .names .from + c .first-len .result ≤ length (c .before .before .before .before .before .before .before .args .names .now)
+-- the name at hand lies within the text
+inside : (c : tie.After-first-len Inv-sensors μ-sensors Inv-names μ-names) → c .before .before .before .names .from + c .first-len .result ≤ length (c .before .before .before .before .before .before .before .args .names .now)
 inside c = name-inside (c .before .before .before .names .inv) (c .before .before .names-test .taken) (c .first-len .ensures)
 
-add-to : tie.Need-add-to Inv-names μ-names
+add-to : tie.Need-add-to Inv-sensors μ-sensors Inv-names μ-names
 add-to c = let k = inside c in search needs
 
-sub-place-of : tie.Need-sub-place-of Inv-names μ-names
-sub-place-of c = omega arith
+sensors-holds : tie.Need-sensors-holds Inv-sensors μ-sensors Inv-names μ-names
+sensors-holds c = searching _ _
 
-part-place-of-start : tie.Need-part-place-of-start Inv-names μ-names
-part-place-of-start c = let k = inside c in search needs
+mul-sensor : tie.Need-mul-sensor Inv-sensors μ-sensors Inv-names μ-names
+mul-sensor c = search needs
 
-part-place-of-end : tie.Need-part-place-of-end Inv-names μ-names
-part-place-of-end c = let k = inside c in search needs
+element-copy-out-sensor : tie.Need-element-copy-out-sensor Inv-sensors μ-sensors Inv-names μ-names
+element-copy-out-sensor c = search needs
 
-place-of-requires : tie.Need-place-of-requires Inv-names μ-names
-place-of-requires c κs = search needs
+sub-has-name : tie.Need-sub-has-name Inv-sensors μ-sensors Inv-names μ-names
+sub-has-name c = omega arith
 
-no-places-requires-2 : tie.Need-no-places-requires-2 Inv-names μ-names
+part-has-name-start : tie.Need-part-has-name-start Inv-sensors μ-sensors Inv-names μ-names
+part-has-name-start c = let k = inside (c .before .before .before) in search needs
+
+part-has-name-end : tie.Need-part-has-name-end Inv-sensors μ-sensors Inv-names μ-names
+part-has-name-end c = let k = inside (c .before .before .before) in search needs
+
+has-name-requires : tie.Need-has-name-requires Inv-sensors μ-sensors Inv-names μ-names
+has-name-requires c κs = search needs
+
+add-j : tie.Need-add-j Inv-sensors μ-sensors Inv-names μ-names
+add-j c = search needs
+
+sensors-less : tie.Need-sensors-less Inv-sensors μ-sensors Inv-names μ-names
+sensors-less c = omega arith
+
+sensors-again : tie.Need-sensors-again Inv-sensors μ-sensors Inv-names μ-names
+sensors-again c = searching-on (c .before .before .before .before .before .sensors .inv) (sym (c .before .has-name .ensures) ∙ c .if1 .left) (omega arith)
+
+no-places-requires-2 : tie.Need-no-places-requires-2 Inv-sensors μ-sensors Inv-names μ-names
 no-places-requires-2 c κs = search needs
 
-on-sheet : (c : tie.Else1 Inv-names μ-names) → c .before .place-of .result < held (c .before .before .before .before .before .before .before .before .before .before .args .sheet)
-on-sheet c = known (c .before .before .before .before .before .before .names .inv) (c .before .before .before .before .before .names-test .taken) (c .before .before .before .first-len .ensures) (c .before .place-of .ensures) (λ e. c .if1 .left (e ∙ sym (c .before .before .before .before .before .before .before .before .held .ensures)))
+-- where the search is left, it has the place of the name
+abbrev start : tie.Left-sensors Inv-sensors μ-sensors Inv-names μ-names → tie.Start Inv-sensors μ-sensors Inv-names μ-names
+start c = c .before .before .before .before .before .before .before .before .before
 
-with-place-requires : tie.Need-with-place-requires Inv-names μ-names
+place-is : (c : tie.Left-sensors Inv-sensors μ-sensors Inv-names μ-names)
+    → c .before .sensors .j ≡ placeIn (start c .args .t1) (take (c .before .before .before .before .before .names .from + c .before .before .first-len .result - c .before .before .before .before .before .names .from) (drop (c .before .before .before .before .before .names .from) (start c .args .names .now)))
+place-is c =
+    ⊎-elim
+    (λ w. searching-none (c .before .sensors .inv) (omega (arith, c .before .before .before .before .before .before .before .held .ensures)))
+    (λ w. searching-found (c .before .sensors .inv) (sym (w .3 .ensures) ∙ w .4 .taken) (omega (arith, w .0 .taken, c .before .before .before .before .before .before .before .held .ensures)))
+    (c .sensors-test .came)
+
+-- and where that is not the count, it is a sensor's
+on-sheet : (c : tie.Else2 Inv-sensors μ-sensors Inv-names μ-names) → c .before .before .sensors .j < held (start (c .before) .args .t1)
+on-sheet c = known (c .before .before .before .before .before .before .names .inv) (c .before .before .before .before .before .names-test .taken) (c .before .before .before .first-len .ensures) (place-is (c .before)) (λ e. c .if2 .left (e ∙ sym (c .before .before .before .before .before .before .before .before .held .ensures)))
+
+with-place-requires : tie.Need-with-place-requires Inv-sensors μ-sensors Inv-names μ-names
 with-place-requires c κs = (c .before .before .before .before .before .before .names .inv .fit, omega (arith, on-sheet c))
 
-add-from : tie.Need-add-from Inv-names μ-names
+add-from : tie.Need-add-from Inv-sensors μ-sensors Inv-names μ-names
 add-from c = let k = inside (c .before .before .before .before) in search needs
 
-names-less : tie.Need-names-less Inv-names μ-names
+names-less : tie.Need-names-less Inv-sensors μ-sensors Inv-names μ-names
 names-less c = omega arith
 
-names-again : tie.Need-names-again Inv-names μ-names
-names-again c = scanning-on (c .before .before .before .before .before .before .before .names .inv) (c .before .before .before .before .before .before .names-test .taken) (c .before .before .before .before .first-len .ensures) (c .before .before .place-of .ensures) (c .with-place .ensures) (on-sheet (c .before))
+names-again : tie.Need-names-again Inv-sensors μ-sensors Inv-names μ-names
+names-again c = scanning-on (c .before .before .before .before .before .before .before .names .inv) (c .before .before .before .before .before .before .names-test .taken) (c .before .before .before .before .first-len .ensures) (place-is (c .before .before)) (c .with-place .ensures) (on-sheet (c .before))
 
-returns : tie.Need-returns Inv-names μ-names
+returns : tie.Need-returns Inv-sensors μ-sensors Inv-names μ-names
 returns c = scanning-end (c .before .names .inv) (omega arith)
 
-returns-2 : tie.Need-returns-2 Inv-names μ-names
-returns-2 c = c .no-places2 .ensures ∙ scanning-unknown (c .before .before .before .before .before .before .before .names .inv) (c .before .before .before .before .before .before .names-test .taken) (c .before .before .before .before .first-len .ensures) (c .before .before .place-of .ensures) (c .before .if1 .taken ∙ c .before .before .before .before .before .before .before .before .before .held .ensures)
+returns-2 : tie.Need-returns-2 Inv-sensors μ-sensors Inv-names μ-names
+returns-2 c = c .no-places2 .ensures ∙ scanning-unknown (c .before .before .before .before .before .before .before .names .inv) (c .before .before .before .before .before .before .names-test .taken) (c .before .before .before .before .first-len .ensures) (place-is (c .before .before)) (c .before .if2 .taken ∙ c .before .before .before .before .before .before .before .before .before .held .ensures)
 
 pub scan-spec : {M : Type 1} → statement M
 scan-spec =
     tie.close
     (tie.spec
+    Inv-sensors
+    μ-sensors
     Inv-names
     μ-names
     held-requires
@@ -92,10 +134,16 @@ scan-spec =
     part-first-len-end
     first-len-requires
     add-to
-    sub-place-of
-    part-place-of-start
-    part-place-of-end
-    place-of-requires
+    sensors-holds
+    mul-sensor
+    element-copy-out-sensor
+    sub-has-name
+    part-has-name-start
+    part-has-name-end
+    has-name-requires
+    add-j
+    sensors-less
+    sensors-again
     no-places-requires-2
     with-place-requires
     add-from

@@ -1,0 +1,24 @@
+-- The call on the state that opening gave.
+use borrow.Author.Needs.{needs}
+use mathlib.Core.Path.{ap}
+use Rattle.machine.specs.declared.Answer.{Answer}
+use Rattle.bench.proofs.bench_tick.Statement.{statement}
+use Rattle.bench.proofs.bench_tick.Tie as tie
+
+open-requires : tie.Need-open-requires
+open-requires c κs = search needs
+
+tick-requires : tie.Need-tick-requires
+tick-requires c κs = search needs
+
+same-length : tie.Need-same-length
+same-length c = search needs
+
+returns : tie.Need-returns
+returns c =
+    let e = c .before .before .before .before .«open» .ensures in
+    let a = c .before .before .tick .ensures in
+    (ap (λ (x : Answer). x .number) (rw e at (a .0)), rw e at (a .1))
+
+pub bench-tick-spec : {M : Type 1} → statement M
+bench-tick-spec = tie.close (tie.spec open-requires tick-requires same-length returns)
