@@ -1,7 +1,7 @@
 //! The same calls in a copy of the library whose copies of memory come here: how many bytes a call copies, and how much stack it uses.
 //! A copy that the compiler writes out in place, of some hundred bytes at most, is not seen.
 
-use crate::device::LENT;
+use crate::device::{lent, read, Slice, LENT};
 use std::ptr;
 use std::sync::atomic::{AtomicU64, AtomicUsize, Ordering::Relaxed};
 use std::thread;
@@ -25,44 +25,25 @@ const STACK: usize = 4 << 20;
 extern "C" {
     fn counted_bench_calls(
         round: u8,
-        sheet: *const u8,
-        sheet_length: usize,
+        sheet: Slice,
         clients: u8,
-        setup: *const u8,
-        setup_length: usize,
-        line: *const u8,
-        line_length: usize,
+        setup: Slice,
+        line: Slice,
         n: u64,
-        out: *mut u8,
-        out_length: usize,
+        out: Slice,
     ) -> u64;
-    fn counted_bench_checks(
-        sheet: *const u8,
-        sheet_length: usize,
-        clients: u8,
-        setup: *const u8,
-        setup_length: usize,
-        n: u64,
-        out: *mut u8,
-        out_length: usize,
-    ) -> u64;
-    fn counted_bench_opens(sheet: *const u8, sheet_length: usize, n: u64) -> u64;
-    fn counted_bench_connect(sheet: *const u8, sheet_length: usize, out: *mut u8, out_length: usize) -> u8;
-    fn counted_bench_disconnect(sheet: *const u8, sheet_length: usize, out: *mut u8, out_length: usize) -> u8;
-    fn counted_bench_tick(sheet: *const u8, sheet_length: usize, out: *mut u8, out_length: usize) -> u8;
-    fn counted_bench_reading(sheet: *const u8, sheet_length: usize, out: *mut u8, out_length: usize) -> u8;
-    fn counted_bench_log(sheet: *const u8, sheet_length: usize, out: *mut u8, out_length: usize) -> u8;
-    fn counted_bench_line(
-        sheet: *const u8,
-        sheet_length: usize,
-        line: *const u8,
-        line_length: usize,
-        out: *mut u8,
-        out_length: usize,
-    ) -> u8;
+    fn counted_bench_checks(sheet: Slice, clients: u8, setup: Slice, n: u64, out: Slice) -> u64;
+    fn counted_bench_opens(sheet: Slice, n: u64) -> u64;
+    fn counted_bench_connect(sheet: Slice, out: Slice) -> u8;
+    fn counted_bench_disconnect(sheet: Slice, out: Slice) -> u8;
+    fn counted_bench_tick(sheet: Slice, out: Slice) -> u8;
+    fn counted_bench_reading(sheet: Slice, out: Slice) -> u8;
+    fn counted_bench_log(sheet: Slice, out: Slice) -> u8;
+    fn counted_bench_line(sheet: Slice, line: Slice, out: Slice) -> u8;
 }
 
-type Call = unsafe extern "C" fn(*const u8, usize, *mut u8, usize) -> u8;
+/// A call made once, on a device that was just opened: its number.
+type Call = unsafe extern "C" fn(Slice, Slice) -> u8;
 
 #[no_mangle]
 unsafe extern "C" fn counted_memcpy(to: *mut u8, from: *const u8, length: usize) -> *mut u8 {
@@ -111,61 +92,31 @@ fn copies(run: impl FnOnce()) -> (u64, u64) {
     (COPIES.load(Relaxed), BYTES.load(Relaxed))
 }
 
-/// Bytes that a call copies, where a run makes n of them.
-fn bytes_a_call(run: impl Fn(u64)) -> u64 {
+/// Bytes that a call copies, where a run makes n of them and says how many were taken.
+fn bytes_a_call(run: impl Fn(u64) -> u64) -> u64 {
     const N: u64 = 10;
-    let none = copies(|| run(0)).1;
-    (copies(|| run(N)).1 - none) / N
+    let bytes = |n| copies(|| assert_eq!(run(n), n, "calls that were taken")).1;
+    (bytes(N) - bytes(0)) / N
 }
 
 /// Bytes copied by a call of a round.
-pub fn call_bytes(round: u8, sheet: &[u8], clients: u8, setup: &[u8], line: &[u8]) -> u64 {
+pub fn call_bytes(round: u8, sheet: &[u8], clients: u8, setup: &str, line: &str) -> u64 {
     let mut out = vec![0; LENT];
-    let (out, length) = (out.as_mut_ptr(), out.len());
-    bytes_a_call(|n| unsafe {
-        let (sheet, sheet_length) = (sheet.as_ptr(), sheet.len());
-        let (setup, setup_length) = (setup.as_ptr(), setup.len());
-        let (line, line_length) = (line.as_ptr(), line.len());
-        let taken = counted_bench_calls(
-            round,
-            sheet,
-            sheet_length,
-            clients,
-            setup,
-            setup_length,
-            line,
-            line_length,
-            n,
-            out,
-            length,
-        );
-        assert_eq!(taken, n, "calls that were taken");
-    })
+    let (sheet, out) = (read(sheet), lent(&mut out));
+    let (setup, line) = (read(setup.as_bytes()), read(line.as_bytes()));
+    bytes_a_call(|n| unsafe { counted_bench_calls(round, sheet, clients, setup, line, n, out) })
 }
 
 /// Bytes copied by a check of a state.
-pub fn check_bytes(sheet: &[u8], clients: u8, setup: &[u8]) -> u64 {
+pub fn check_bytes(sheet: &[u8], clients: u8, setup: &str) -> u64 {
     let mut out = vec![0; LENT];
-    let (out, length) = (out.as_mut_ptr(), out.len());
-    bytes_a_call(|n| unsafe {
-        counted_bench_checks(
-            sheet.as_ptr(),
-            sheet.len(),
-            clients,
-            setup.as_ptr(),
-            setup.len(),
-            n,
-            out,
-            length,
-        );
-    })
+    let (sheet, setup, out) = (read(sheet), read(setup.as_bytes()), lent(&mut out));
+    bytes_a_call(|n| unsafe { counted_bench_checks(sheet, clients, setup, n, out) })
 }
 
 /// Bytes copied by an opening.
 pub fn open_bytes(sheet: &[u8]) -> u64 {
-    bytes_a_call(|n| unsafe {
-        counted_bench_opens(sheet.as_ptr(), sheet.len(), n);
-    })
+    bytes_a_call(|n| unsafe { counted_bench_opens(read(sheet), n) })
 }
 
 /// One call, made by `run`, of which `before` copies belong to the opening and connecting that go before it: the stack that it uses, from the
@@ -202,24 +153,23 @@ pub fn stacks(sheet: &[u8]) -> Vec<(&'static str, usize)> {
 }
 
 /// The stack of a line, whatever it is answered.
-pub fn line_stack(sheet: &[u8], line: &[u8]) -> usize {
+pub fn line_stack(sheet: &[u8], line: &str) -> usize {
     let connecting = copies(|| once(counted_bench_connect, sheet)).0;
     stack(connecting, || {
         let mut out = vec![0; LENT];
-        let (out, length) = (out.as_mut_ptr(), out.len());
-        unsafe { counted_bench_line(sheet.as_ptr(), sheet.len(), line.as_ptr(), line.len(), out, length) };
+        unsafe { counted_bench_line(read(sheet), read(line.as_bytes()), lent(&mut out)) };
     })
 }
 
 /// An opening.
 fn open(sheet: &[u8]) {
-    let taken = unsafe { counted_bench_opens(sheet.as_ptr(), sheet.len(), 1) };
+    let taken = unsafe { counted_bench_opens(read(sheet), 1) };
     assert_eq!(taken, 1, "openings that were taken");
 }
 
 /// A call.
 fn once(call: Call, sheet: &[u8]) {
     let mut out = vec![0; LENT];
-    let number = unsafe { call(sheet.as_ptr(), sheet.len(), out.as_mut_ptr(), out.len()) };
+    let number = unsafe { call(read(sheet), lent(&mut out)) };
     assert_eq!(number, 0, "the number of the call");
 }

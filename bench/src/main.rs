@@ -55,6 +55,8 @@ fn main() {
 fn tables() {
     print_times();
     println!();
+    print_openings();
+    println!();
     print_work();
     println!();
     print_stacks();
@@ -95,11 +97,11 @@ const OPEN_LARGEST: &str = "open, the largest sheet";
 
 /// The n calls of a row on the device.
 fn device_calls(case: &Case, n: u64) -> u64 {
-    device::calls(case.round as u8, &case.sheet, case.clients, case.setup.as_bytes(), case.line.as_bytes(), n)
+    device::calls(case.round as u8, &case.sheet, case.clients, &case.setup, &case.line, n)
 }
 
 fn device_checks(n: u64) -> u64 {
-    device::checks(&unit::sheet(32), 8, unit::sampling(32, "event").as_bytes(), n)
+    device::checks(&unit::sheet(32), 8, &unit::sampling(32, "event"), n)
 }
 
 /// The calls of a row, for a program that watches this one.
@@ -132,10 +134,17 @@ fn print_times() {
         print_times_row(case.name, device, Some(model), copy);
     }
     print_times_row(CHECK, nanoseconds(20_000, TIMES, device_checks), None, copy);
+}
+
+/// Nanoseconds an opening.
+fn print_openings() {
+    println!("| call | device, ns | model, ns | device / model |");
+    println!("|---|---|---|---|");
     for (name, sheet) in [(OPEN, unit::sheet(32)), (OPEN_LARGEST, unit::largest_sheet())] {
+        let opened = |_: &u64| Device::open(&sheet).0 == 0;
         let device = nanoseconds(2_000, TIMES, |n| device::opens(&sheet, n));
-        let model = nanoseconds(2_000, TIMES, |n| (0..n).filter(|_| Device::open(&sheet).0 == 0).count() as u64);
-        print_times_row(name, device, Some(model), copy);
+        let model = nanoseconds(2_000, TIMES, |n| (0..n).filter(opened).count() as u64);
+        println!("| {name} | {device:.0} | {model:.0} | {:.1} |", device / model);
     }
 }
 
@@ -186,10 +195,9 @@ fn copied(cases: &[Case], row: usize) -> Option<u64> {
     Some(match row.checked_sub(cases.len()) {
         None => {
             let case = &cases[row];
-            let (setup, line) = (case.setup.as_bytes(), case.line.as_bytes());
-            counted::call_bytes(case.round as u8, &case.sheet, case.clients, setup, line)
+            counted::call_bytes(case.round as u8, &case.sheet, case.clients, &case.setup, &case.line)
         }
-        Some(0) => counted::check_bytes(&unit::sheet(32), 8, unit::sampling(32, "event").as_bytes()),
+        Some(0) => counted::check_bytes(&unit::sheet(32), 8, &unit::sampling(32, "event")),
         Some(1) => counted::open_bytes(&unit::sheet(32)),
         _ => counted::open_bytes(&unit::largest_sheet()),
     })
@@ -212,7 +220,7 @@ fn print_stacks() {
     let bulk = unit::sampling(32, "differential 10");
     for line in ["?watchdog", "?sensor-value", &bulk, "?help", "?restart", "?no-such-request", "!reply"] {
         let name = line.split(' ').next().unwrap_or(line);
-        println!("| line, `{name}` | {} |", counted::line_stack(&sheet, line.as_bytes()));
+        println!("| line, `{name}` | {} |", counted::line_stack(&sheet, line));
     }
 }
 
@@ -242,7 +250,7 @@ fn print_growth() {
     });
     print_growth_row("the check alone", &SIZES, |sensors, clients| {
         let (sheet, setup) = (unit::sheet(sensors), unit::sampling(sensors, "event"));
-        Some(nanoseconds(GROWN_CALLS, GROWN_TIMES, |n| device::checks(&sheet, clients, setup.as_bytes(), n)))
+        Some(nanoseconds(GROWN_CALLS, GROWN_TIMES, |n| device::checks(&sheet, clients, &setup, n)))
     });
     print_growth_row("open", &SIZES, |sensors, clients| {
         let sheet = unit::sheet(sensors);
@@ -257,9 +265,7 @@ const GROWN_TIMES: usize = 7;
 /// Nanoseconds a call of a round on a unit of that size.
 fn grown(round: Round, sensors: usize, clients: u8, strategy: &str, line: &str) -> f64 {
     let (sheet, setup) = (unit::sheet(sensors), unit::sampling(sensors, strategy));
-    nanoseconds(GROWN_CALLS, GROWN_TIMES, |n| {
-        device::calls(round as u8, &sheet, clients, setup.as_bytes(), line.as_bytes(), n)
-    })
+    nanoseconds(GROWN_CALLS, GROWN_TIMES, |n| device::calls(round as u8, &sheet, clients, &setup, line, n))
 }
 
 fn print_growth_row(name: &str, sizes: &[(usize, u8)], cost: impl Fn(usize, u8) -> Option<f64>) {
