@@ -1,7 +1,5 @@
 -- The address stands at the start, and zeros behind it; where the call is declined, a blank client.
-use Prim.Native.Nat.{_≤_}
 use native.Mathlib.Omega.{arith}
-use lib.ListN.{length}
 use borrow.Author.Needs.{needs}
 use borrow.Author.Tests.{ne-eqb}
 use Rattle.layout.proofs.TakenLaws.{pads}

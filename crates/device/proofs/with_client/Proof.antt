@@ -1,6 +1,4 @@
 -- The clients with one stored anew and the subscriptions without its own, or the state as it was.
-use mathlib.Core.Path.{_≡_}
-use lib.Dec.{eqb}
 use borrow.Author.Needs.{needs}
 use Rattle.machine.specs.State.{withClient}
 use Rattle.device.proofs.ExitLaws.{placed}
