@@ -122,7 +122,7 @@ pub fn open_bytes(sheet: &[u8]) -> u64 {
 /// One call, made by `run`, of which `before` copies belong to the opening and connecting that go before it: the stack that it uses, from the
 /// frame of the function that runs it down. What opening and connecting used is not in it; the State and the answer of the function in
 /// between are.
-fn stack(before: u64, run: impl Fn() + Send) -> usize {
+fn stack(before: u64, run: impl Fn() + Sync) -> usize {
     let measure = || {
         let top = 0u8;
         COPIES.store(0, Relaxed);

@@ -218,10 +218,9 @@ fn print_stacks() {
         println!("| {name} | {bytes} |");
     }
     let bulk = unit::sampling(32, "differential 10");
-    for line in ["?watchdog", "?sensor-value", &bulk, "?help", "?restart", "?no-such-request", "!reply"] {
-        let name = line.split(' ').next().unwrap_or(line);
-        println!("| line, `{name}` | {} |", counted::line_stack(&sheet, line));
-    }
+    let lines = ["?watchdog", "?sensor-value", &bulk, "?help", "?restart", "?no-such-request", "!reply"];
+    let deepest = lines.iter().map(|line| counted::line_stack(&sheet, line)).max();
+    println!("| line (the most of {}) | {} |", lines.len(), deepest.unwrap_or_default());
 }
 
 #[cfg(not(counted))]

@@ -9,6 +9,7 @@ use Rattle.output.specs.Text.{text}
 use Rattle.value.specs.declared.Reading.the-variants.{Integer}
 use Rattle.machine.specs.declared.State.{State}
 use Rattle.machine.specs.declared.Answer.{Answer}
+use Rattle.machine.specs.Range.{inRange}
 use Rattle.machine.specs.Opening.{opened}
 use Rattle.machine.specs.Declined.{Action, callOf}
 use Rattle.machine.specs.Declined as calls
@@ -69,6 +70,10 @@ prepared sheet clients setup out = runs (roundAction rounds.Setup setup) (begun 
 -- n calls of a round on a device that was prepared
 unfoldable pub measured : Round → List ℕ → Run → ℕ → Run
 measured round line ready n = runs (roundAction round line) (begun (ready .state) (ready .out)) n
+
+-- the number of a call that leaves a state in range, else 255
+abbrev pub judge : Effect → ℕ
+judge e = cond (inRange (e .next)) (e .number) 255
 
 -- a call on the device of a sheet that was just opened
 abbrev pub onFresh : List ℕ → Action → List ℕ → Effect

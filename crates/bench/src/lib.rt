@@ -184,70 +184,77 @@ pub extern "C" fn bench_checks(
     check(state, n)
 }
 
-// Client 0 connects to the device of a sheet: the number of the call.
+// The number of a call that leaves a state in range, else 255: so the whole answer is looked at.
+fn judged(number: u8, state: State) -> u8
+    ensures { λ r. ⌜ r ≡ cond (inRange state) number 255 ⌝ }
+{
+    if sheet::in_range(state) { number } else { 255 }
+}
+
+// Client 0 connects to the device of a sheet: what the call is judged.
 #[no_mangle]
 pub extern "C" fn bench_connect(sheet: &[u8], out: &mut [u8]) -> u8
-    ensures { λ r. ⌜ r ≡ spec.onFresh (now (sheet .entry)) (calls.Connect 0 (text "bench")) (now (out .entry)) .number ⌝ }
+    ensures { λ r. ⌜ r ≡ spec.judge (spec.onFresh (now (sheet .entry)) (calls.Connect 0 (text "bench")) (now (out .entry))) ⌝ }
     ensures { λ r. ⌜ now (out .exit) ≡ outputOf (spec.onFresh (now (sheet .entry)) (calls.Connect 0 (text "bench")) (now (out .entry))) (now (out .entry)) ⌝ }
 {
     let fresh = device::open(sheet);
     let answer = device::connect(fresh.state, 0, b"bench", out);
-    answer.number
+    judged(answer.number, answer.state)
 }
 
 // A tick.
 #[no_mangle]
 pub extern "C" fn bench_tick(sheet: &[u8], out: &mut [u8]) -> u8
-    ensures { λ r. ⌜ r ≡ spec.onFresh (now (sheet .entry)) (calls.Tick 1) (now (out .entry)) .number ⌝ }
+    ensures { λ r. ⌜ r ≡ spec.judge (spec.onFresh (now (sheet .entry)) (calls.Tick 1) (now (out .entry))) ⌝ }
     ensures { λ r. ⌜ now (out .exit) ≡ outputOf (spec.onFresh (now (sheet .entry)) (calls.Tick 1) (now (out .entry))) (now (out .entry)) ⌝ }
 {
     let fresh = device::open(sheet);
     let answer = device::tick(fresh.state, 1, out);
-    answer.number
+    judged(answer.number, answer.state)
 }
 
 // A reading of sensor 0.
 #[no_mangle]
 pub extern "C" fn bench_reading(sheet: &[u8], out: &mut [u8]) -> u8
-    ensures { λ r. ⌜ r ≡ spec.onFresh (now (sheet .entry)) (spec.roundAction rounds.Reading [] 0) (now (out .entry)) .number ⌝ }
+    ensures { λ r. ⌜ r ≡ spec.judge (spec.onFresh (now (sheet .entry)) (spec.roundAction rounds.Reading [] 0) (now (out .entry))) ⌝ }
     ensures { λ r. ⌜ now (out .exit) ≡ outputOf (spec.onFresh (now (sheet .entry)) (spec.roundAction rounds.Reading [] 0) (now (out .entry))) (now (out .entry)) ⌝ }
 {
     let fresh = device::open(sheet);
     let answer = device::reading(fresh.state, 0, Reading::Integer(7), out);
-    answer.number
+    judged(answer.number, answer.state)
 }
 
 // A log entry.
 #[no_mangle]
 pub extern "C" fn bench_log(sheet: &[u8], out: &mut [u8]) -> u8
-    ensures { λ r. ⌜ r ≡ spec.onFresh (now (sheet .entry)) (calls.Log 1 (text "bench") (text "bench")) (now (out .entry)) .number ⌝ }
+    ensures { λ r. ⌜ r ≡ spec.judge (spec.onFresh (now (sheet .entry)) (calls.Log 1 (text "bench") (text "bench")) (now (out .entry))) ⌝ }
     ensures { λ r. ⌜ now (out .exit) ≡ outputOf (spec.onFresh (now (sheet .entry)) (calls.Log 1 (text "bench") (text "bench")) (now (out .entry))) (now (out .entry)) ⌝ }
 {
     let fresh = device::open(sheet);
     let answer = device::log(fresh.state, 1, b"bench", b"bench", out);
-    answer.number
+    judged(answer.number, answer.state)
 }
 
 // Client 0 has connected, and is disconnected.
 #[no_mangle]
 pub extern "C" fn bench_disconnect(sheet: &[u8], out: &mut [u8]) -> u8
-    ensures { λ r. ⌜ r ≡ spec.onConnected (now (sheet .entry)) (calls.Disconnect 0) (now (out .entry)) .number ⌝ }
+    ensures { λ r. ⌜ r ≡ spec.judge (spec.onConnected (now (sheet .entry)) (calls.Disconnect 0) (now (out .entry))) ⌝ }
     ensures { λ r. ⌜ now (out .exit) ≡ outputOf (spec.onConnected (now (sheet .entry)) (calls.Disconnect 0) (now (out .entry))) (spec.connectedOut (now (sheet .entry)) (now (out .entry))) ⌝ }
 {
     let fresh = device::open(sheet);
     let greeted = device::connect(fresh.state, 0, b"bench", out);
     let answer = device::disconnect(greeted.state, 0, out);
-    answer.number
+    judged(answer.number, answer.state)
 }
 
 // Client 0 has connected, and sends a line.
 #[no_mangle]
 pub extern "C" fn bench_line(sheet: &[u8], line: &[u8], out: &mut [u8]) -> u8
-    ensures { λ r. ⌜ r ≡ spec.onConnected (now (sheet .entry)) (calls.Line 0 (now (line .entry))) (now (out .entry)) .number ⌝ }
+    ensures { λ r. ⌜ r ≡ spec.judge (spec.onConnected (now (sheet .entry)) (calls.Line 0 (now (line .entry))) (now (out .entry))) ⌝ }
     ensures { λ r. ⌜ now (out .exit) ≡ outputOf (spec.onConnected (now (sheet .entry)) (calls.Line 0 (now (line .entry))) (now (out .entry))) (spec.connectedOut (now (sheet .entry)) (now (out .entry))) ⌝ }
 {
     let fresh = device::open(sheet);
     let greeted = device::connect(fresh.state, 0, b"bench", out);
     let answer = device::line(greeted.state, 0, line, out);
-    answer.number
+    judged(answer.number, answer.state)
 }

@@ -11,7 +11,7 @@ use borrow.Author.Tests.{eqb-true, eqb-false, eq-eqb, ltb-true, lt-ltb, le-ltb}
 use Rattle.machine.specs.declared.Subscription.{Subscription}
 use Rattle.machine.specs.Places.{tabulate}
 use Rattle.machine.specs.State.{noSubscription}
-use Rattle.machine.proofs.PlacesLaws.{length-tabulate, getD-tabulate}
+use Rattle.machine.proofs.PlacesLaws.{length-tabulate, getD-tabulate, tabulate-same}
 use Rattle.machine.proofs.StoreLaws.{set-by-place}
 use Rattle.machine.proofs.TestLaws.{and-true, and-in, test-same}
 use Rattle.device.proofs.RowLaws.{not-none}
@@ -33,12 +33,6 @@ in-is : (client j p : ℕ) → isIn client j p ≡ true → (p % 32 < j) × (p /
 in-is client j p e =
     let q = and-true (ltb (p % 32) j) (eqb (p / 32) client) e in
     (ltb-true (p % 32) j (q .0), eqb-true (p / 32) client (q .1))
-
--- lists by place are equal where each place is
-tabulate-same : {A : Type 0} (f g : ℕ → A) (n : ℕ) → ((i : ℕ) → i < n → f i ≡ g i) → tabulate f n ≡ tabulate g n
-unfolding tabulate
-tabulate-same f g zero h = refl
-tabulate-same f g (suc n) h = rw (tabulate-same f g n (λ i k. h i (omega arith)), h n (omega arith))
 
 -- one choice behind another, of the same thing
 either : {A : Type 0} (a b c : Bool) (x y : A) → (a ≡ true → c ≡ true) → (a ≡ false → b ≡ c) → cond a x (cond b x y) ≡ cond c x y

@@ -21,8 +21,5 @@ sensors-many sheet vs h = simp length-map at (h .1 .1 .1 .1 .1 .1 .1 .0 .1 .0 .1
 pub readings-many : (s : State) (vs : List Val) → shadow (declared.row state-type .own s vs) → length (s .readings) ≡ 32
 readings-many s vs h = simp length-map at (h .1 .1 .1 .1 .1 .1 .0 .1 .0 .1)
 
-pub clients-many : (s : State) (vs : List Val) → shadow (declared.row state-type .own s vs) → length (s .clients) ≡ 8
-clients-many s vs h = simp length-map at (h .1 .1 .1 .1 .1 .1 .1 .0 .1 .0 .1)
-
 pub subscriptions-many : (s : State) (vs : List Val) → shadow (declared.row state-type .own s vs) → length (s .subscriptions) ≡ 256
 subscriptions-many s vs h = simp length-map at (h .1 .1 .1 .1 .1 .1 .1 .1 .0 .1 .0 .1)

@@ -178,6 +178,12 @@ first-is f n j h t only = go (ltb (firstBelow f n) n) refl
     go true e = only (firstBelow f n) (ltb-true (firstBelow f n) n e) (first-holds f n (ltb-true (firstBelow f n) n e))
     go false e = absurd (true≢false (sym t ∙ first-none f n j (omega (arith, ltb-false (firstBelow f n) n e, first-most f n)) h))
 
+-- lists by place are equal where each place is
+pub tabulate-same : {A : Type 0} (f g : ℕ → A) (n : ℕ) → ((i : ℕ) → i < n → f i ≡ g i) → tabulate f n ≡ tabulate g n
+unfolding tabulate
+tabulate-same f g zero h = refl
+tabulate-same f g (suc n) h = rw (tabulate-same f g n (λ i k. h i (omega arith)), h n (omega arith))
+
 -- what is collected over places, where each place adds at most k
 pub gather-length : {A : Type 0} (f : ℕ → List A) (k n : ℕ) → ((i : ℕ) → length (f i) ≤ k) → length (gather f n) ≤ n * k
 unfolding gather

@@ -42,11 +42,6 @@ and-then true true c d h = h refl refl
 and-then true false c d h = refl
 and-then false b c d h = refl
 
--- the two ways of a choice
-pub choose : (t a b : Bool) → ((t && a) || (not t && b)) ≡ cond t a b
-choose true a b = or-no a
-choose false a b = refl
-
 module _ {A : Type 0} where
   pub cond-either : (P : A → Type 0) (b : Bool) (x y : A) → P x → P y → P (cond b x y)
   cond-either P true x y h k = h

@@ -24,7 +24,7 @@ use Rattle.names.proofs.SplitLaws.{split-last, split-more}
 -- The search of a name.
 
 -- the sensor at a place has the name
-abbrev pub named : Sheet → List ℕ → ℕ → Bool
+abbrev named : Sheet → List ℕ → ℕ → Bool
 named sheet name j = same (nameOf (sensorOf sheet j)) name
 
 -- no place before j has it

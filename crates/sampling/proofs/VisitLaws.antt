@@ -36,19 +36,19 @@ up P m (suc n) l f x = go (eqb m (suc n)) refl (up P m n)
     go false e ih = let k : m ≤ n = omega (arith, eqb-false m (suc n) e) in f n k (omega arith) (ih k (λ q h i. f q h (omega arith)) x)
 
 -- whether client and sensor of a place are there
-abbrev pub there : State → ℕ → Bool
+abbrev there : State → ℕ → Bool
 there s p = connected s (p / 32) && ltb (p % 32) (s .sheet .count)
 
 -- whether the place reports, where the call visits at all
-abbrev pub reports : Bool → State → Cause → ℕ → Bool
+abbrev reports : Bool → State → Cause → ℕ → Bool
 reports visits s cause p = visits && dueAt (s .sheet) s cause (p / 32) (p % 32) (pairAt s p)
 
 -- the subscription that it leaves
-abbrev pub leaves : Bool → State → Cause → ℕ → Subscription
+abbrev leaves : Bool → State → Cause → ℕ → Subscription
 leaves visits s cause p = cond (reports visits s cause p) (reported (s .clock) (present s (p % 32)) (pairAt s p)) (pairAt s p)
 
 -- what it sends
-abbrev pub sends : Bool → State → Cause → ℕ → List Delivery
+abbrev sends : Bool → State → Cause → ℕ → List Delivery
 sends visits s cause p = oneIf (reports visits s cause p) (to (p / 32) (reportOf (s .sheet) s (p % 32)))
 
 -- the visit has passed the places before n: these are the subscriptions, and this was sent

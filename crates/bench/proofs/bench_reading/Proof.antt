@@ -1,7 +1,9 @@
 -- The call on the state that opening gave.
 use borrow.Author.Needs.{needs}
-use mathlib.Core.Path.{ap}
+use mathlib.Core.Path.{ap, _∙_}
+use mathlib.Core.Bool.{cond}
 use Rattle.machine.specs.declared.Answer.{Answer}
+use Rattle.machine.specs.Range.{inRange}
 use Rattle.bench.specs.Runs.{roundAction}
 use Rattle.bench.proofs.bench_reading.Statement.{statement}
 use Rattle.bench.proofs.bench_reading.Tie as tie
@@ -12,15 +14,19 @@ open-requires c κs = search needs
 reading-requires : tie.Need-reading-requires
 reading-requires c κs = search needs
 
+judged-requires : tie.Need-judged-requires
+judged-requires c κs = search needs
+
 same-length : tie.Need-same-length
 same-length c = search needs
 
 returns : tie.Need-returns
 unfolding roundAction
 returns c =
-    let e = c .before .before .before .before .«open» .ensures in
-    let a = c .before .before .reading .ensures in
-    (ap (λ (x : Answer). x .number) (rw e at (a .0)), rw e at (a .1))
+    let e = c .before .before .before .before .before .«open» .ensures in
+    let a = c .before .before .before .reading .ensures in
+    (c .judged .ensures ∙ ap (λ (x : Answer). cond (inRange (x .state)) (x .number) 255) (rw e at (a .0)), rw e at (a .1))
 
 pub bench-reading-spec : {M : Type 1} → statement M
-bench-reading-spec = tie.close (tie.spec open-requires reading-requires same-length returns)
+bench-reading-spec =
+    tie.close (tie.spec open-requires reading-requires judged-requires same-length returns)
