@@ -20,8 +20,8 @@ struct Lines {
 // Client 0's lines among the first `written` bytes of a call's output: whether they were printed.
 fn print_lines(out: &[u8], written: usize) -> bool {
     let mut lines = io::large_buffer();
-    let n = terminal::put_shown(&mut lines, 0, 0, output::prefix(out, written));
-    stream::print(output::prefix(&lines, n))
+    let n = terminal::put_shown(&mut lines, 0, 0, texts::prefix(out, written));
+    stream::print(texts::prefix(&lines, n))
 }
 
 // An input line is carried out, and what the client is sent is printed.
@@ -39,7 +39,7 @@ fn serve_line(state: State, line: &[u8], out: &mut [u8]) -> Turn {
 fn serve_lines(first: State, s: &[u8], out: &mut [u8]) -> Lines {
     let mut state = first;
     let mut from: usize = 0;
-    let mut end = line::len_before(s, 10);
+    let mut end = texts::len_before(s, 10);
     while end < s.len() {
         let turn = serve_line(state, &s[from..end], out);
         state = turn.state;
@@ -51,7 +51,7 @@ fn serve_lines(first: State, s: &[u8], out: &mut [u8]) -> Lines {
                 printed: false,
             };
         }
-        end = from + line::len_before(&s[from..], 10);
+        end = from + texts::len_before(&s[from..], 10);
     }
     Lines {
         state: state,

@@ -12,8 +12,8 @@ struct Turn {
 // Client 0's lines among the first `written` bytes of a call's output: whether they were printed.
 fn print_lines(out: &[u8], written: usize) -> bool {
     let mut lines = io::large_buffer();
-    let n = terminal::put_shown(&mut lines, 0, 0, output::prefix(out, written));
-    stream::print(output::prefix(&lines, n))
+    let n = terminal::put_shown(&mut lines, 0, 0, texts::prefix(out, written));
+    stream::print(texts::prefix(&lines, n))
 }
 
 // A line, the number of its call, and what client 0 is sent.
@@ -41,7 +41,7 @@ fn show_lines(s: &[u8], first: State, out: &mut [u8]) -> bool {
     let mut state = first;
     let mut at = 0;
     while at < s.len() {
-        let e = at + line::len_before(&s[at..], 10);
+        let e = at + texts::len_before(&s[at..], 10);
         let turn = show(state, &s[at..e], out);
         if !turn.printed {
             return false;

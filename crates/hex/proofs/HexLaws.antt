@@ -10,7 +10,7 @@ use borrow.Author.Tests.{leb-true, lt-ltb, le-ltb}
 use lib.ListN.{length, drop, getD, length-drop, drop-of-length-le}
 use Rattle.output.specs.Text.{isDigit}
 use Rattle.output.proofs.TextLaws.{digit-range}
-use Rattle.line.proofs.At.{at, at2}
+use Rattle.texts.proofs.At.{at, at2}
 use Rattle.hex.specs.Hex.{isHexLetter, hexValue, hexDigit, bytesOf, hexed, hexFrom}
 
 -- the number of a digit, by its kind

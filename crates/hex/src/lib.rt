@@ -21,14 +21,14 @@ fn is_hex_letter(b: u8) -> bool
 fn is_hex(b: u8) -> bool
     ensures { λ r. ⌜ r ≡ spec.isHex b ⌝ }
 {
-    output::is_digit(b) | is_hex_letter(b)
+    texts::is_digit(b) | is_hex_letter(b)
 }
 
 // The number of a hex digit, 0 for every other byte.
 fn hex_value(b: u8) -> u8
     ensures { λ r. ⌜ (r ≡ spec.hexValue b) × (r < 16) ⌝ }
 {
-    if output::is_digit(b) {
+    if texts::is_digit(b) {
         return b - b'0';
     }
     if is_hex_letter(b) {
@@ -54,7 +54,7 @@ fn all_hex(t: &[u8]) -> bool
 pub fn is_bytes(t: &[u8]) -> bool
     ensures { λ r. ⌜ r ≡ spec.isBytes (now (t .entry)) ⌝ }
 {
-    line::same(t, b"-") | ((2 <= t.len()) & ((t.len() % 2 == 0) & all_hex(t)))
+    texts::same(t, b"-") | ((2 <= t.len()) & ((t.len() % 2 == 0) & all_hex(t)))
 }
 
 // The byte of two hex digits.

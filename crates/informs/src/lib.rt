@@ -90,28 +90,28 @@ pub fn put_arg_level(out: &mut [u8], at: usize, level: u8) -> usize
 pub fn level_named(word: &[u8]) -> u8
     ensures { λ r. ⌜ r ≡ levelOf (now (word .entry)) ⌝ }
 {
-    if line::same(b"off", word) {
+    if texts::same(b"off", word) {
         return 0;
     }
-    if line::same(b"fatal", word) {
+    if texts::same(b"fatal", word) {
         return 1;
     }
-    if line::same(b"error", word) {
+    if texts::same(b"error", word) {
         return 2;
     }
-    if line::same(b"warn", word) {
+    if texts::same(b"warn", word) {
         return 3;
     }
-    if line::same(b"info", word) {
+    if texts::same(b"info", word) {
         return 4;
     }
-    if line::same(b"debug", word) {
+    if texts::same(b"debug", word) {
         return 5;
     }
-    if line::same(b"trace", word) {
+    if texts::same(b"trace", word) {
         return 6;
     }
-    if line::same(b"all", word) {
+    if texts::same(b"all", word) {
         return 7;
     }
     8

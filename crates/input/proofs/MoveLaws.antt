@@ -11,7 +11,7 @@ use lib.Dec.{eqb}
 use lib.ListN.{length, take, drop, getD, set, length-take, length-drop}
 use lib.Seq.{paste, paste-suc, length-paste, getD-append-add, getD-drop, length-take-le}
 use Rattle.output.specs.Output.{laid}
-use Rattle.line.proofs.At.{up-to-end}
+use Rattle.texts.proofs.At.{up-to-end}
 use Rattle.input.specs.declared.Window.{Window}
 use Rattle.input.specs.Window.{pending, kept, first}
 

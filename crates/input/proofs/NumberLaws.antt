@@ -19,7 +19,7 @@ use Rattle.output.proofs.LengthLaws.{length-decimal, length-integer}
 use Rattle.output.proofs.ReadBack.{decimals, integers}
 use Rattle.output.proofs.TextLaws.{same-true, same-refl}
 use Rattle.value.specs.Parameter.{whole, wholeOk}
-use Rattle.line.proofs.At.{to-end}
+use Rattle.texts.proofs.At.{to-end}
 use Rattle.input.specs.declared.Number.the-variants.{Is, Bad}
 use Rattle.input.specs.Words.{numberOf, isNatural}
 

@@ -8,7 +8,7 @@ use lib.ListN.{length, take, drop, getD, drop-of-length-le}
 use lib.Seq.{drop-drop}
 use Rattle.output.specs.Read.{other, upTo, past}
 use Rattle.output.proofs.RunLaws.{run-le, run-take, run-drop}
-use Rattle.line.proofs.At.{at, to-end}
+use Rattle.texts.proofs.At.{at, to-end}
 use Rattle.input.specs.Words.{wordAt, spaces}
 
 module _ (x : ℕ) (s : List ℕ) (n : ℕ) (before : n ≡ length (upTo x s)) where

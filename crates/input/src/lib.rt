@@ -74,7 +74,7 @@ pub fn make_room(buf: &mut [u8], w: Window, most: usize) -> Window
 fn behind_space(s: &[u8]) -> &[u8]
     ensures { λ r. ⌜ now r ≡ past 32 (now (s .entry)) ⌝ }
 {
-    let n = line::len_before(s, b' ');
+    let n = texts::len_before(s, b' ');
     if n == s.len() {
         return &s[n..];
     }
@@ -87,7 +87,7 @@ pub fn word(line: &[u8], k: usize) -> &[u8]
     ensures { λ r. ⌜ now r ≡ wordAt k (now (line .entry)) ⌝ }
 {
     if k == 0 {
-        let n = line::len_before(line, b' ');
+        let n = texts::len_before(line, b' ');
         return &line[..n];
     }
     word(behind_space(line), k - 1)
@@ -112,14 +112,14 @@ fn count_spaces(line: &[u8]) -> usize
 pub fn has_words(line: &[u8], first: &[u8], more: usize) -> bool
     ensures { λ r. ⌜ r ≡ hasWords (now (first .entry)) more (now (line .entry)) ⌝ }
 {
-    line::same(word(line, 0), first) & (count_spaces(line) == more)
+    texts::same(word(line, 0), first) & (count_spaces(line) == more)
 }
 
 // Whether a text is a decimal, of any size.
 pub fn is_natural(t: &[u8]) -> bool
     ensures { λ r. ⌜ r ≡ isNatural (now (t .entry)) ⌝ }
 {
-    value::whole_ok(t) & (value::digits_len(t) == t.len())
+    value::whole_ok(t) & (texts::digits_len(t) == t.len())
 }
 
 // A decimal that 64 bits hold, without leading zeros: a text is one where its number is written as that text.
@@ -129,7 +129,7 @@ pub fn read_decimal(t: &[u8]) -> Number
     let n = value::digits_value(t, u64::MAX);
     let mut again = [0u8; 20];
     let p = output::put_decimal(&mut again, 0, n);
-    if line::same(output::prefix(&again, p), t) {
+    if texts::same(texts::prefix(&again, p), t) {
         return Number::Is(n);
     }
     Number::Bad
@@ -155,7 +155,7 @@ fn read_biased(t: &[u8]) -> Number
     let n = signed_value(t);
     let mut again = [0u8; 20];
     let p = output::put_integer(&mut again, 0, n);
-    if (n < 4294967296) & line::same(output::prefix(&again, p), t) {
+    if (n < 4294967296) & texts::same(texts::prefix(&again, p), t) {
         return Number::Is(n);
     }
     Number::Bad

@@ -10,7 +10,7 @@ use lib.Seq.{drop-drop, length-take-le}
 use borrow.Author.Tests.{le-leb, lt-leb, leb-true}
 use Rattle.output.specs.Output.{output, Wrote}
 use Rattle.output.proofs.OutputLaws.{from-start}
-use Rattle.line.proofs.At.{at}
+use Rattle.texts.proofs.At.{at}
 use Rattle.machine.proofs.TestLaws.{cond-cases, cond-either}
 use Rattle.machine.specs.Opening.{Taken, broken, taken, andThen, byteAt, bytesAt, textAt, padded}
 use Rattle.layout.specs.declared.TextTaken.{TextTaken}

@@ -508,7 +508,7 @@ pub fn sheet_at(s: &[u8]) -> SheetTaken
     let TextTaken::Span(a, e) = bytes_at(s, Cursor { at: 0 }, 5) else {
         return no_sheet();
     };
-    if line::same(&s[a..e], b"LGU\0\x01") {
+    if texts::same(&s[a..e], b"LGU\0\x01") {
         return body_at(s, Cursor { at: e });
     }
     no_sheet()

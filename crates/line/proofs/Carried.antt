@@ -12,7 +12,7 @@ use Rattle.line.specs.declared.Header.{Header}
 use Rattle.line.specs.declared.Parsed.the-variants as P
 use Rattle.line.specs.declared.Identifier.{Identifier}
 use Rattle.line.specs.declared.Identifier.the-variants.{Bad, Is}
-use Rattle.line.specs.Line.{Parse, message, malformed, parse, unescape, wordByte, word, behind, nameOf, nameByte, kindByte, blank, idOf, afterName, nameOk, withId, readHead, lineSize, allValid}
+use Rattle.line.specs.Line.{Parse, message, malformed, parse, unescape, wordByte, word, behind, nameOf, titleByte, kindByte, blank, idOf, afterName, nameOk, withId, readHead, lineSize, allValid}
 use Rattle.line.specs.Argument.{argument}
 use Rattle.line.specs.Answer.{answer, header}
 
@@ -59,7 +59,7 @@ of-line s m e = go (lineSize s && allValid (behind s)) e
 
 -- a name is the start of its word, and so of the line behind the kind byte
 take-name : (t u : List ℕ) → take (length (nameOf t)) (t ++ u) ≡ nameOf t
-take-name t u = take-append-le (length (nameOf t)) t u (run-le nameByte t) ∙ run-take nameByte t
+take-name t u = take-append-le (length (nameOf t)) t u (run-le titleByte t) ∙ run-take titleByte t
 
 split-word : (s : List ℕ) → word s ++ drop (length (word s)) s ≡ s
 split-word s = ap (λ (l : List ℕ). l ++ drop (length (word s)) s) (sym (run-take wordByte s)) ∙ take-append-drop (length (word s)) s
@@ -73,7 +73,7 @@ named (b ∷ s) n e ne = go (blank b) e ne
     go false e ne =
         let q : take (length (nameOf (word s))) s ≡ nameOf (word s) =
         ap (λ (l : List ℕ). take (length (nameOf (word s))) l) (sym (split-word s)) ∙ take-name (word s) (drop (length (word s)) s) in
-        (rw e q, omega (arith, ap length e, run-le nameByte (word s), run-le wordByte s))
+        (rw e q, omega (arith, ap length e, run-le titleByte (word s), run-le wordByte s))
 
 pub carries : (s : List ℕ) (m : Message) → parse s ≡ message m → Carries s m
 carries s m e =

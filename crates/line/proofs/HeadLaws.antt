@@ -13,12 +13,12 @@ use Rattle.line.specs.declared.Parsed.the-variants.{Malformed}
 use Rattle.line.specs.declared.Identifier.{Identifier}
 use Rattle.line.specs.declared.Identifier.the-variants.{Bad, Is}
 use Rattle.line.specs.declared.Count.the-variants.{Are, Refused}
-use Rattle.line.specs.Line.{Parse, malformed, letter, nameByte, kindByte, nameOf, afterName, startsWithLetter, nameOk, idOf, withId, readHead, unescape, allValid, behind, word, parse}
+use Rattle.line.specs.Line.{Parse, malformed, letter, titleByte, kindByte, nameOf, afterName, startsWithLetter, nameOk, idOf, withId, readHead, unescape, allValid, behind, word, parse}
 use Rattle.line.specs.Answer.{answer, withIdRead, namedRead, headRead, countOf}
 
 first-letter : (t : List ℕ) → (length (nameOf t) ≡ 0 → ⊥) → startsWithLetter (nameOf t) ≡ letter (getD t 0 0)
 first-letter [] ne = absurd (ne refl)
-first-letter (b ∷ s) ne = go (nameByte b) ne
+first-letter (b ∷ s) ne = go (titleByte b) ne
   where
     go : (t : Bool) → (length (cond t (b ∷ nameOf s) []) ≡ 0 → ⊥) → startsWithLetter (cond t (b ∷ nameOf s) []) ≡ letter b
     go true ne = refl
@@ -49,7 +49,7 @@ module _ (t : List ℕ) (k count n : ℕ) (en : n ≡ length (nameOf t)) where
   decides h z l m e =
       let f : leb (length (nameOf t)) 64 ≡ true = le-leb (length (nameOf t)) 64 (omega arith) in
       let g : startsWithLetter (nameOf t) ≡ true = first-letter t (λ q. z (en ∙ q)) ∙ l in
-      rw (e, f, g, en, ← run-drop nameByte t)
+      rw (e, f, g, en, ← run-drop titleByte t)
 
 pub no-head : (w : List ℕ) (count : ℕ) → length w ≡ 0 → Malformed ≡ headRead w count
 no-head [] count e = refl

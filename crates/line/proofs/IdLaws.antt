@@ -10,7 +10,7 @@ use lib.ListN.{length, drop, getD, length-drop, drop-of-length-le}
 use Rattle.output.specs.Text.{isDigit}
 use Rattle.line.specs.declared.Identifier.the-variants.{Bad, Is}
 use Rattle.line.specs.Line.{idFrom, idOf}
-use Rattle.line.proofs.At.{at}
+use Rattle.texts.proofs.At.{at}
 
 module _ (t : List ℕ) (n i r : ℕ) (h : i < length t) (er : r ≡ getD t i 0 - 48) (d : isDigit (getD t i 0) ≡ true) where
   pub small : n * 10 + r < 1 → idFrom n (drop i t) ≡ Bad

@@ -1,13 +1,10 @@
-pub mod At
 pub mod UnescapeLaws
 pub mod IdLaws
 pub mod SameLaws
-pub mod PassLaws
 pub mod WordLaws
 pub mod HeadLaws
 pub mod CopyLaws
 pub mod Carried
 pub mod ReadBack
 pub mod Edges
-pub mod BeforeLaws
 pub mod ParsedHead

@@ -12,13 +12,13 @@ use Rattle.output.specs.Text.{isDigit, all}
 use Rattle.message.specs.Message.{Message}
 use Rattle.line.specs.declared.Identifier.{Identifier}
 use Rattle.line.specs.declared.Identifier.the-variants.{Bad, Is}
-use Rattle.line.specs.Line.{Parse, malformed, message, blank, kindByte, nameByte, nameOk, nameOf, afterName, idFrom, idOf, withId, readNamed, readHead, lineSize, allValid, behind, word, parse, blankLine}
+use Rattle.line.specs.Line.{Parse, malformed, message, blank, kindByte, titleByte, nameOk, nameOf, afterName, idFrom, idOf, withId, readNamed, readHead, lineSize, allValid, behind, word, parse, blankLine}
 use Rattle.output.proofs.RunLaws.{run-all}
 
 -- kind, name and id of a message as a line can give them
 pub record Head (m : Message) : Type 0 where
   pub kind : kindByte (m .kind) ≡ true
-  pub letters : all nameByte (m .name) ≡ true
+  pub letters : all titleByte (m .name) ≡ true
   pub name : nameOk (m .name) ≡ true
   pub id : m .id ≤ 2147483647
 
@@ -55,7 +55,7 @@ named-head k t ws h = go (nameOk (nameOf t)) refl (idOf (afterName t)) (id-most 
   where
     go : (b : Bool) → nameOk (nameOf t) ≡ b → (i : Identifier) → Small i → HasHead (cond b (withId k (nameOf t) i ws) malformed)
     go true e Bad small = tt
-    go true e (Is i) small = record { kind = h; letters = run-all nameByte t; name = e; id = small }
+    go true e (Is i) small = record { kind = h; letters = run-all titleByte t; name = e; id = small }
     go false e i small = tt
 
 head-head : (w : List ℕ) (ws : List (List ℕ)) → HasHead (readHead w ws)

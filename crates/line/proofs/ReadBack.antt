@@ -16,7 +16,7 @@ use Rattle.output.specs.Text.{isDigit, all}
 use Rattle.output.proofs.TextLaws.{digit-is}
 use Rattle.output.proofs.RunLaws as run
 use Rattle.output.proofs.RunLaws.{all-append, all-in, run-append}
-use Rattle.line.specs.Line.{message, blank, letter, nameByte, kindByte, plain, escapeOf, wordByte, word, words, behind, valid, allValid, unescape, nameOf, afterName, nameOk, idFrom, idOf, readHead, parse, WellFormed}
+use Rattle.line.specs.Line.{message, blank, letter, titleByte, kindByte, plain, escapeOf, wordByte, word, words, behind, valid, allValid, unescape, nameOf, afterName, nameOk, idFrom, idOf, readHead, parse, WellFormed}
 
 -- Words of lists one after another.
 
@@ -186,9 +186,9 @@ digits (suc k) n b lo hi = go (ltb n 10) refl (digits k (n / 10))
 
 -- The head.
 
-clean-name : (n : List ℕ) → all nameByte n ≡ true → clean n ≡ true
-unfolding nameByte letter isDigit
-clean-name n p = all-in nameByte wordByte (λ b q. ap not (not-blank nameByte refl refl b q)) n p
+clean-name : (n : List ℕ) → all titleByte n ≡ true → clean n ≡ true
+unfolding titleByte letter isDigit
+clean-name n p = all-in titleByte wordByte (λ b q. ap not (not-blank titleByte refl refl b q)) n p
 
 -- `[id]`, or nothing: it is no name, has no blank, and is read as the identifier
 record Bracketed (i : ℕ) (t : List ℕ) : Type 0 where
@@ -201,7 +201,7 @@ positive : (i : ℕ) → (i ≡ 0 → ⊥) → 1 ≤ i
 positive i ne = omega arith
 
 bracketed : (i : ℕ) → i ≤ 2147483647 → Bracketed i (idText i)
-unfolding idText nameByte letter isDigit blank
+unfolding idText titleByte letter isDigit blank
 bracketed i h = go (eqb i 0) refl
   where
     go : (t : Bool) → eqb i 0 ≡ t → Bracketed i (cond t [] (91 ∷ (decimal i ++ (93 ∷ []))))
@@ -214,12 +214,12 @@ bracketed i h = go (eqb i 0) refl
         let r : idFrom i (93 ∷ []) ≡ Is i = rw f in
         record { unnamed = refl; stays = refl; tidy = d .tidy (93 ∷ []); reads = d .reads (93 ∷ []) ∙ r }
 
-head-reads : (k i : ℕ) (n : List ℕ) (xs : List (List ℕ)) → kindByte k ≡ true → all nameByte n ≡ true → nameOk n ≡ true → i ≤ 2147483647
+head-reads : (k i : ℕ) (n : List ℕ) (xs : List (List ℕ)) → kindByte k ≡ true → all titleByte n ≡ true → nameOk n ≡ true → i ≤ 2147483647
     → readHead (k ∷ (n ++ idText i)) (map escape xs) ≡ message (record { kind = k; name = n; id = i; args = xs })
 head-reads k i n xs hk hl hn hi =
     let t = bracketed i hi in
-    let a : nameOf (n ++ idText i) ≡ n = run-append nameByte n (idText i) hl ∙ ap (λ (l : List ℕ). n ++ l) (t .unnamed) ∙ append-nil n in
-    let b : afterName (n ++ idText i) ≡ idText i = run.behind-append nameByte n (idText i) hl ∙ t .stays in
+    let a : nameOf (n ++ idText i) ≡ n = run-append titleByte n (idText i) hl ∙ ap (λ (l : List ℕ). n ++ l) (t .unnamed) ∙ append-nil n in
+    let b : afterName (n ++ idText i) ≡ idText i = run.behind-append titleByte n (idText i) hl ∙ t .stays in
     rw (hk, a, b, t .reads, hn, args-read xs)
 
 -- The line.

@@ -1,4 +1,4 @@
--- Texts compared byte by byte from a place on, and the text that a word stands for, compared as it is read.
+-- The text that a word stands for, compared as it is read.
 use Prim.Native.Nat.{ℕ, _+_, _-_, _≤_, _<_}
 use mathlib.Core.Path.{_≡_, refl, sym, ap, _∙_}
 use mathlib.Core.Bool.{Bool, true, false, _&&_, false≢true}
@@ -11,10 +11,7 @@ use lib.ListN.{length, drop, getD, length-drop, drop-of-length-le}
 use Rattle.output.specs.Text.{same}
 use Rattle.line.specs.Line.{unescape}
 use Rattle.line.specs.Answer.{begins}
-use Rattle.line.proofs.At.{at}
-
-pub same-over : (a b : List ℕ) (i : ℕ) → length a ≤ i → length b ≤ i → same (drop i a) (drop i b) ≡ true
-same-over a b i h k = rw (drop-of-length-le a h, drop-of-length-le b k)
+use Rattle.texts.proofs.At.{at}
 
 -- The first byte of the rest of a text.
 

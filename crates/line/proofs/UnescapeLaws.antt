@@ -16,7 +16,7 @@ use Rattle.line.specs.declared.Meaning.{Meaning}
 use Rattle.line.specs.declared.Meaning.the-variants.{Byte, Nothing, Unknown}
 use Rattle.line.specs.Line.{plain, known, meant, escapeOf, valid, unescape}
 use Rattle.line.proofs.Meaning.{the-type}
-use Rattle.line.proofs.At.{at, at2}
+use Rattle.texts.proofs.At.{at, at2}
 
 -- what the code's match on a meaning tells where it is no byte
 none : (m : Meaning) → OneOf (1 ∷ 2 ∷ []) (tagOf the-type m) → meant m ≡ []

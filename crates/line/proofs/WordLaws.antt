@@ -13,7 +13,7 @@ use Rattle.line.specs.declared.Count.the-variants.{Are, Refused}
 use Rattle.line.specs.Line.{blank, wordByte, word, words, behind, valid, allValid}
 use Rattle.line.specs.Answer.{lead, countOf}
 use Rattle.line.specs.Words.{IsWord, first, NextWord}
-use Rattle.line.proofs.At.{to-end}
+use Rattle.texts.proofs.At.{to-end}
 
 -- the code's `&s[..e]`
 pub first-word : (s : List ℕ) (e : ℕ) → e ≡ length (word s) → take e s ≡ word s

@@ -7,6 +7,8 @@ use mathlib.Core.Bool.{Bool, true, false, not, cond, _&&_, _||_}
 use lib.ListN.{length}
 use lib.Dec.{eqb, leb}
 use Rattle.output.specs.Text.{isDigit, all, run, behindRun}
+unfoldable pub use Rattle.texts.specs.Class.{blank, letter, titleByte}
+pub use Rattle.texts.specs.Class.{wordByte}
 use Rattle.message.specs.Message.{Message, Escape, escapes, write}
 use Rattle.line.specs.declared.Meaning.{Meaning}
 use Rattle.line.specs.declared.Meaning.the-variants.{Byte, Nothing, Unknown}
@@ -19,18 +21,6 @@ pub data Parse : Type 0 where
   message : Message → Parse
 
 -- Bytes.
-
--- a space or a tab
-unfoldable pub blank : ℕ → Bool
-blank b = eqb b (code " ") || eqb b (code "\t")
-
--- a letter of ASCII
-unfoldable pub letter : ℕ → Bool
-letter b = (leb (code "A") b && leb b (code "Z")) || (leb (code "a") b && leb b (code "z"))
-
--- "letters, digits, `-`"
-unfoldable pub nameByte : ℕ → Bool
-nameByte b = letter b || (isDigit b || eqb b (code "-"))
 
 -- "`?` (request), `!` (reply) or `#` (inform)"
 unfoldable pub kindByte : ℕ → Bool
@@ -55,10 +45,6 @@ unfoldable pub plain : ℕ → Bool
 plain b = noneOf escapes b
 
 -- Words: "arguments, each after one or more spaces or tabs. Trailing spaces and tabs are allowed." A line is cut at its spaces and tabs.
-
--- a byte of a word
-abbrev pub wordByte : ℕ → Bool
-wordByte b = not (blank b)
 
 -- the bytes up to the first space or tab
 abbrev pub word : List ℕ → List ℕ
@@ -120,11 +106,11 @@ allValid (w ∷ ws) = valid w && allValid ws
 
 -- the name that a list starts with
 abbrev pub nameOf : List ℕ → List ℕ
-nameOf t = run nameByte t
+nameOf t = run titleByte t
 
 -- what is behind that name
 abbrev pub afterName : List ℕ → List ℕ
-afterName t = behindRun nameByte t
+afterName t = behindRun titleByte t
 
 -- "a letter, then .."
 abbrev pub startsWithLetter : List ℕ → Bool
@@ -179,7 +165,7 @@ blankLine s = lineSize s && all blank s
 -- what a message keeps to, so that its line is a line
 pub record WellFormed (m : Message) : Type 0 where
   pub kind : kindByte (m .kind) ≡ true
-  pub letters : all nameByte (m .name) ≡ true
+  pub letters : all titleByte (m .name) ≡ true
   pub name : nameOk (m .name) ≡ true
   pub id : m .id ≤ 2147483647
   pub fits : length (write m) ≤ 2048

@@ -1,11 +1,11 @@
 //! Message lines: the bytes of a line to a message (document 01, "Message lines"). A line is cut at its spaces and tabs; each word
 //! behind the first is an argument, which is found again by its place.
+use texts::Class;
 ghost use mathlib.Core.Path.{_≡_};
 ghost use mathlib.Core.List.{[]};
 ghost use Prim.Native.Nat.{_+_, _-_, _≤_, _<_};
 ghost use lib.ListN.{length, getD, take, drop};
 ghost use Rattle.output.specs.Output.{output, Wrote};
-ghost use Rattle.output.specs.Read.{upTo};
 ghost use Rattle.output.specs.Text as texts;
 ghost use Rattle.line.specs.Line as spec;
 ghost use Rattle.line.specs.Argument as arguments;
@@ -55,26 +55,6 @@ pub enum Parsed {
 pub enum Copied {
     Whole(usize),
     Short,
-}
-
-// A space or a tab.
-fn blank(b: u8) -> bool
-    ensures { λ r. ⌜ r ≡ spec.blank b ⌝ }
-{
-    (b == b' ') | (b == 9)
-}
-
-// A letter of ASCII.
-pub fn letter(b: u8) -> bool
-    ensures { λ r. ⌜ r ≡ spec.letter b ⌝ }
-{
-    ((b'A' <= b) & (b <= b'Z')) | ((b'a' <= b) & (b <= b'z'))
-}
-
-fn name_byte(b: u8) -> bool
-    ensures { λ r. ⌜ r ≡ spec.nameByte b ⌝ }
-{
-    letter(b) | (output::is_digit(b) | (b == b'-'))
 }
 
 fn kind_byte(b: u8) -> bool
@@ -130,42 +110,21 @@ fn known(c: u8) -> bool
 fn lead(s: &[u8]) -> usize
     ensures { λ r. ⌜ r ≡ answers.lead (now (s .entry)) ⌝ }
 {
-    let mut i = 0;
-    while i < s.len() {
-        if !blank(s[i]) {
-            return i;
-        }
-        i += 1;
-    }
-    i
+    texts::run_len(s, Class::Blank)
 }
 
 // The length of the word that `s` starts with.
 fn word_len(s: &[u8]) -> usize
     ensures { λ r. ⌜ r ≡ length (spec.word (now (s .entry))) ⌝ }
 {
-    let mut i = 0;
-    while i < s.len() {
-        if blank(s[i]) {
-            return i;
-        }
-        i += 1;
-    }
-    i
+    texts::run_len(s, Class::Word)
 }
 
 // The length of the name that `s` starts with.
 fn name_len(s: &[u8]) -> usize
     ensures { λ r. ⌜ r ≡ length (spec.nameOf (now (s .entry))) ⌝ }
 {
-    let mut i = 0;
-    while i < s.len() {
-        if !name_byte(s[i]) {
-            return i;
-        }
-        i += 1;
-    }
-    i
+    texts::run_len(s, Class::Title)
 }
 
 // Whether a word is plain bytes and known escapes.
@@ -251,7 +210,7 @@ fn id_from(t: &[u8]) -> Identifier
     let mut i = 0;
     while i < t.len() {
         let b = t[i];
-        if !output::is_digit(b) {
+        if !texts::is_digit(b) {
             if b != b']' {
                 return Identifier::Bad;
             }
@@ -292,23 +251,6 @@ fn id_of(t: &[u8]) -> Identifier
         return Identifier::Bad;
     }
     id_from(&t[1..])
-}
-
-// Whether two texts are the same. All bytes are compared: texts of a known length are then compared in a few steps.
-pub fn same(a: &[u8], b: &[u8]) -> bool
-    ensures { λ r. ⌜ r ≡ texts.same (now (a .entry)) (now (b .entry)) ⌝ }
-{
-    if a.len() != b.len() {
-        return false;
-    }
-    let mut i = 0;
-    while i < a.len() {
-        if a[i] != b[i] {
-            return false;
-        }
-        i += 1;
-    }
-    true
 }
 
 // The first word at or after `from`; where there is none, an empty one.
@@ -368,7 +310,7 @@ fn named(t: &[u8], kind: u8, count: usize) -> Parsed
     if n == 0 {
         return Parsed::Malformed;
     }
-    if !letter(t[0]) {
+    if !texts::is_letter(t[0]) {
         return Parsed::Malformed;
     }
     let Identifier::Is(id) = id_of(&t[n..]) else {
@@ -492,19 +434,5 @@ pub fn name(line: &[u8], n: usize) -> &[u8]
     if line.len() == 0 {
         return line;
     }
-    output::prefix(&line[1..], n)
-}
-
-// How many bytes of `s` stand before its first byte `stop`; all of them where it has none.
-pub fn len_before(s: &[u8], stop: u8) -> usize
-    ensures { λ r. ⌜ r ≡ length (upTo stop (now (s .entry))) ⌝ }
-{
-    let mut i = 0;
-    while i < s.len() {
-        if s[i] == stop {
-            return i;
-        }
-        i += 1;
-    }
-    i
+    texts::prefix(&line[1..], n)
 }

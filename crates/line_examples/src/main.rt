@@ -33,7 +33,7 @@ fn print_argument(line: &[u8], k: usize) -> bool {
     let Copied::Whole(n) = line::argument(line, k, &mut text) else {
         return true;
     };
-    print_bytes(output::prefix(&text, n))
+    print_bytes(texts::prefix(&text, n))
 }
 
 fn print_arguments(line: &[u8], count: usize) -> bool {
@@ -49,7 +49,7 @@ fn print_arguments(line: &[u8], count: usize) -> bool {
 // The kind byte and the name, n bytes.
 fn print_name(line: &[u8], n: usize) -> bool {
     if n < line.len() {
-        return stream::print(output::prefix(line, n + 1));
+        return stream::print(texts::prefix(line, n + 1));
     }
     true
 }
@@ -90,7 +90,7 @@ fn show_escapes() -> bool {
 fn show_lines(s: &[u8]) -> bool {
     let mut at = 0;
     while at < s.len() {
-        let e = at + line::len_before(&s[at..], 10);
+        let e = at + texts::len_before(&s[at..], 10);
         if !show(&s[at..e]) {
             return false;
         }

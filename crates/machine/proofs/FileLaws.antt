@@ -16,7 +16,7 @@ use Rattle.output.proofs.RunLaws.{all-append, all-in}
 use Rattle.output.proofs.ReadLaws.{upTo-at, past-at}
 use Rattle.message.specs.Message.{Message, escapeByte, escapeAll, escape, arg, argsText, idText, writeTo, write, line, Escape, escapes, escapeIn}
 use Rattle.message.proofs.MessageLaws.{line-end}
-use Rattle.line.specs.Line.{message, letter, nameByte, kindByte, parse, WellFormed}
+use Rattle.line.specs.Line.{message, letter, titleByte, kindByte, parse, WellFormed}
 use Rattle.line.proofs.ReadBack.{read-back, written-apart}
 use Rattle.machine.specs.Places.{Each, joined}
 use Rattle.machine.specs.TwoDevices.{withoutEnd}
@@ -62,9 +62,9 @@ id-free n = cond-either (λ l. all (other 10) l ≡ true) (eqb n 0) [] _ refl
     (all-append (other 10) (decimal n) (93 ∷ []) (every-all (other 10) (decimal n) (every-decimal (λ b. other 10 b ≡ true) (λ k. not-end isDigit refl (digit k) (digit-is k)) n)) refl)
 
 pub written-free : (m : Message) → WellFormed m → all (other 10) (write m) ≡ true
-unfolding writeTo nameByte letter isDigit kindByte
+unfolding writeTo titleByte letter isDigit kindByte
 written-free m w = all-append (other 10) (m .kind ∷ m .name) (idText (m .id) ++ argsText (m .args) [])
-    (rw (not-end kindByte refl (m .kind) (w .kind)) (all-in nameByte (other 10) (not-end nameByte refl) (m .name) (w .letters)))
+    (rw (not-end kindByte refl (m .kind) (w .kind)) (all-in titleByte (other 10) (not-end titleByte refl) (m .name) (w .letters)))
     (all-append (other 10) (idText (m .id)) (argsText (m .args) []) (id-free (m .id)) (args-free (m .args)))
 
 -- a line without its end parses to its message

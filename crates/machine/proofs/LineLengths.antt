@@ -13,7 +13,7 @@ use Rattle.output.specs.Number.{decimal}
 use Rattle.output.proofs.LengthLaws.{length-decimal}
 use Rattle.output.proofs.TextLaws.{Every}
 use Rattle.message.specs.Message.{Message, Escape, escapes, escapeIn, escapeByte, escapeAll, escape, arg, argsText, idText, writeTo, write}
-use Rattle.line.specs.Line.{kindByte, nameByte, nameOk, startsWithLetter}
+use Rattle.line.specs.Line.{kindByte, titleByte, nameOk, startsWithLetter}
 use Rattle.line.proofs.ParsedHead.{Head}
 use Rattle.machine.specs.Places.{Each}
 use Rattle.machine.specs.Messages.{informWith, reply}
@@ -97,7 +97,7 @@ name-length : (name : List ℕ) → nameOk name ≡ true → length name ≤ 64
 name-length name h = leb-true (length name) 64 (and-eq-true-iff (leb (length name) 64) (startsWithLetter name) .0 h .0)
 
 -- an inform, by its name
-pub sound-inform : (most id : ℕ) (name : List ℕ) (args : List (List ℕ)) → all nameByte name ≡ true → nameOk name ≡ true → id ≤ 2147483647
+pub sound-inform : (most id : ℕ) (name : List ℕ) (args : List (List ℕ)) → all titleByte name ≡ true → nameOk name ≡ true → id ≤ 2147483647
     → 13 + length name + argsMost args ≤ most → Sound most (informWith id name args)
 unfolding kindByte
 sound-inform most id name args l n i h =

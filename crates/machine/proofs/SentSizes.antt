@@ -11,7 +11,7 @@ use Rattle.output.specs.Text.{text, isDigit}
 use Rattle.output.specs.Number.{time}
 use Rattle.output.proofs.LengthLaws.{length-time}
 use Rattle.message.specs.Message.{Message, arg, argsText}
-use Rattle.line.specs.Line.{letter, nameByte}
+use Rattle.line.specs.Line.{letter, titleByte}
 use Rattle.line.proofs.ParsedHead.{Head}
 use Rattle.value.specs.declared.Sample.{Sample}
 use Rattle.value.specs.Status.{statusText}
@@ -69,25 +69,25 @@ code-short n = go (eqb n 16 || (eqb n 18 || eqb n 23))
 -- Connecting and leaving.
 
 pub sound-protocol : Sound 1300 (Messages.versionConnect Messages.protocolArgs)
-unfolding nameByte letter isDigit
+unfolding titleByte letter isDigit
 sound-protocol = sound-inform 1300 0 (text "version-connect") Messages.protocolArgs refl refl (omega arith) (omega arith)
 
 pub sound-device : (sheet : Sheet) → length (apiOf sheet) ≤ 32 → length (buildOf sheet) ≤ 32 → Sound 1300 (Messages.versionConnect (Messages.deviceArgs sheet))
-unfolding nameByte letter isDigit
+unfolding titleByte letter isDigit
 sound-device sheet h k = sound-inform 1300 0 (text "version-connect") (Messages.deviceArgs sheet) refl refl (omega arith) (omega arith)
 
 pub sound-newcomer : (address : List ℕ) → length address ≤ 48 → Sound 1300 (Messages.clientConnected address)
-unfolding nameByte letter isDigit
+unfolding titleByte letter isDigit
 sound-newcomer address h = sound-inform 1300 0 (text "client-connected") (address ∷ []) refl refl (omega arith) (omega arith)
 
 pub sound-disconnect : (why : List ℕ) → length why ≤ 32 → Sound 1300 (Messages.disconnect why)
-unfolding nameByte letter
+unfolding titleByte letter
 sound-disconnect why h = sound-inform 1300 0 (text "disconnect") (why ∷ []) refl refl (omega arith) (omega arith)
 
 -- Log entries.
 
 pub sound-entry : (level clock : ℕ) (logger said : List ℕ) → clock ≤ 9999999999999 → length logger ≤ 32 → length said ≤ 256 → Sound 1300 (Messages.logEntry level clock logger said)
-unfolding nameByte letter
+unfolding titleByte letter
 sound-entry level clock logger said h k l =
     sound-inform 1300 0 (text "log") (Messages.levelText level ∷ time clock ∷ logger ∷ said ∷ []) refl refl (omega arith)
     (omega (arith, level-short level, length-time clock h))
@@ -99,7 +99,7 @@ values-most t n x h r k =
     omega (arith, length-time t h, text-short (r .name-is), status-short (Messages.statusFor n x), sample-short n r x k)
 
 pub sound-report : (clock : ℕ) (n : Sensor) (x : Sample) → clock ≤ 9999999999999 → SensorRules n → sampleOk n x ≡ true → Sound 200 (Messages.report clock n x)
-unfolding Messages.report nameByte letter isDigit
+unfolding Messages.report titleByte letter isDigit
 sound-report clock n x h r k =
     sound-inform 200 0 (text "sensor-status") (Messages.valueArgs clock n x) refl refl (omega arith) (omega (arith, values-most clock n x h r k))
 
@@ -107,19 +107,19 @@ sound-report clock n x h r k =
 
 module _ (id : ℕ) (i : id ≤ 2147483647) where
   pub sound-client : (address : List ℕ) → length address ≤ 48 → Sound 1300 (Messages.clientInform id address)
-  unfolding nameByte letter isDigit
+  unfolding titleByte letter isDigit
   sound-client address h = sound-inform 1300 id (text "client-list") (address ∷ []) refl refl i (omega arith)
 
   pub sound-help : (name : List ℕ) → length name ≤ 15 → Sound 1300 (Messages.helpInform id name)
-  unfolding nameByte letter
+  unfolding titleByte letter
   sound-help name h = sound-inform 1300 id (text "help") (name ∷ name ∷ []) refl refl i (omega arith)
 
   pub sound-version : (args : List (List ℕ)) → argsMost args ≤ 165 → Sound 1300 (Messages.versionInform id args)
-  unfolding nameByte letter isDigit
+  unfolding titleByte letter isDigit
   sound-version args h = sound-inform 1300 id (text "version-list") args refl refl i (omega arith)
 
   pub sound-sensor : (n : Sensor) → SensorRules n → Sound 1300 (Messages.sensorInform id n)
-  unfolding Messages.sensorInform nameByte letter isDigit
+  unfolding Messages.sensorInform titleByte letter isDigit
   sound-sensor n r =
       sound-inform 1300 id (text "sensor-list") (nameOf n ∷ descriptionOf n ∷ unitsOf n ∷ Messages.typeText (n .kind) ∷ Messages.typeArgs n) refl refl i
       (omega (
@@ -133,7 +133,7 @@ module _ (id : ℕ) (i : id ≤ 2147483647) where
 
   pub sound-value : (s : State) (sheet : Sheet) (j : ℕ) → storedOf s j .time ≤ 9999999999999 → SensorRules (sensorOf sheet j) → sampleOk (sensorOf sheet j) (present s j) ≡ true
       → Sound 1300 (Messages.valueInform id s sheet j)
-  unfolding Messages.valueInform nameByte letter isDigit
+  unfolding Messages.valueInform titleByte letter isDigit
   sound-value s sheet j h r k =
       sound-inform 1300 id (text "sensor-value") (Messages.valueArgs (storedOf s j .time) (sensorOf sheet j) (present s j)) refl refl i
       (omega (arith, values-most (storedOf s j .time) (sensorOf sheet j) (present s j) h r k))

@@ -1,13 +1,12 @@
 -- Document 01, "Sheet": a sensor and its texts, and the rules that a sheet keeps.
 use Prim.Native.Nat.{ℕ}
-use Prim.Native.Char.{code}
 use mathlib.Core.Bool.{Bool, cond, not, _&&_, _||_}
 use mathlib.Core.List.{List, []}
 use lib.Dec.{eqb, leb, ltb}
 use lib.ListN.{length, getD, take, drop}
-use Rattle.output.specs.Text.{same, isDigit, all}
+use Rattle.output.specs.Text.{same, all}
 use Rattle.output.specs.Read.{inInteger, inFloat}
-use Rattle.line.specs.Line.{letter}
+unfoldable pub use Rattle.texts.specs.Class.{nameByte}
 use Rattle.value.specs.declared.Limits.{Limits}
 use Rattle.machine.specs.declared.Choice.{Choice}
 use Rattle.machine.specs.declared.Sensor.{Sensor}
@@ -71,10 +70,6 @@ graphic b = leb 0x21 b && leb b 0x7E
 -- "bytes 0x20–0x7E"
 unfoldable pub printable : ℕ → Bool
 printable b = leb 0x20 b && leb b 0x7E
-
--- a name byte: "a-z A-Z 0-9 . - _"
-unfoldable pub nameByte : ℕ → Bool
-nameByte b = letter b || (isDigit b || (eqb b (code ".") || (eqb b (code "-") || eqb b (code "_"))))
 
 -- byte 0
 abbrev pub zeroByte : ℕ → Bool

@@ -61,7 +61,7 @@ pub fn put_arg(out: &mut [u8], at: usize, s: &[u8]) -> usize
 pub fn put_arg_prefix(out: &mut [u8], at: usize, s: &[u8], n: usize) -> usize
     ensures { λ r. ⌜ Wrote (output (now (out .entry)) at) (arg (take n (now (s .entry)))) (output (now (out .exit)) r) ⌝ }
 {
-    put_arg(out, at, output::prefix(s, n))
+    put_arg(out, at, texts::prefix(s, n))
 }
 
 // The texts of numbers need no escapes.

@@ -10,7 +10,7 @@ use lib.Seq.{drop-drop}
 use borrow.Author.Tests.{ltb-true, ltb-false, le-leb, lt-leb}
 use Rattle.output.specs.Text.{run, same}
 use Rattle.output.proofs.RunLaws.{run-le, run-take}
-use Rattle.line.proofs.At.{to-end}
+use Rattle.texts.proofs.At.{to-end}
 use Rattle.machine.specs.declared.Sheet.{Sheet}
 use Rattle.machine.specs.Places.{any, firstBelow, twice}
 use Rattle.machine.specs.Sheet.{sensorOf, nameOf}

@@ -40,21 +40,14 @@ fn has_name(sensor: Sensor, name: &[u8]) -> bool
     ensures { λ r. ⌜ r ≡ texts.same (nameOf sensor) (now (name .entry)) ⌝ }
 {
     let own = sensor.name;
-    line::same(output::prefix(&own, sensor.name_len as usize), name)
+    texts::same(texts::prefix(&own, sensor.name_len as usize), name)
 }
 
 // The length of the first name of a comma list.
 fn first_len(names: &[u8]) -> usize
     ensures { λ r. ⌜ r ≡ length (texts.run scans.inName (now (names .entry))) ⌝ }
 {
-    let mut i = 0;
-    while i < names.len() {
-        if names[i] == b',' {
-            return i;
-        }
-        i += 1;
-    }
-    i
+    texts::len_before(names, b',')
 }
 
 // Whether a place is in a list of them.

@@ -3,8 +3,6 @@
 ghost use mathlib.Core.Path.{_≡_};
 ghost use mathlib.Core.List.{[], _∷_};
 ghost use Prim.Native.Nat.{_+_, _/_, _%_, _<_, _≤_};
-ghost use lib.ListN.{take};
-ghost use Rattle.output.specs.Text.{isDigit};
 ghost use Rattle.output.specs.Output.{output, Wrote};
 ghost use Rattle.output.specs.Number.{digit, decimal, time, fractionIn, fixed, integer, float, difference, wholeDifference};
 
@@ -31,30 +29,6 @@ pub fn put_bytes(out: &mut [u8], at: usize, s: &[u8]) -> usize
         i += 1;
     }
     p
-}
-
-// The first n bytes of s, which may be an array of any size; all of s where it is shorter.
-pub fn prefix(s: &[u8], n: usize) -> &[u8]
-    ensures { λ r. ⌜ now r ≡ take n (now (s .entry)) ⌝ }
-{
-    if n < s.len() {
-        return &s[..n];
-    }
-    s
-}
-
-// These bytes, written at `at`.
-pub fn put_prefix(out: &mut [u8], at: usize, s: &[u8], n: usize) -> usize
-    ensures { λ r. ⌜ Wrote (output (now (out .entry)) at) (take n (now (s .entry))) (output (now (out .exit)) r) ⌝ }
-{
-    put_bytes(out, at, prefix(s, n))
-}
-
-// Whether a byte is a decimal digit.
-pub fn is_digit(b: u8) -> bool
-    ensures { λ r. ⌜ r ≡ isDigit b ⌝ }
-{
-    (b'0' <= b) & (b <= b'9')
 }
 
 // The last decimal digit of n.

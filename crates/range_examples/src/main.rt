@@ -352,7 +352,7 @@ fn show_lines(s: &[u8], first: State, blank: State) -> bool {
     let mut state = first;
     let mut at = 0;
     while at < s.len() {
-        let e = at + line::len_before(&s[at..], 10);
+        let e = at + texts::len_before(&s[at..], 10);
         let turn = show(&s[at..e], state, blank);
         if !turn.printed {
             return false;

@@ -21,7 +21,7 @@ fn answer_line(state: State, line: &[u8], out: &mut [u8], answers: &mut [u8], at
     let done = script::perform(state, line, out);
     let answer = done.answer;
     let command = done.command;
-    let bytes = output::prefix(out, answer.written);
+    let bytes = texts::prefix(out, answer.written);
     let end = script::put_reply(answers, at, command, answer.number, bytes);
     let next = answer.state;
     if end < 65536 {
@@ -34,7 +34,7 @@ fn answer_line(state: State, line: &[u8], out: &mut [u8], answers: &mut [u8], at
     Turn {
         state: next,
         at: 0,
-        printed: stream::print(output::prefix(answers, end)),
+        printed: stream::print(texts::prefix(answers, end)),
     }
 }
 
@@ -43,7 +43,7 @@ fn answer_lines(first: State, s: &[u8], out: &mut [u8], answers: &mut [u8]) -> L
     let mut state = first;
     let mut at: usize = 0;
     let mut from: usize = 0;
-    let mut end = line::len_before(s, 10);
+    let mut end = texts::len_before(s, 10);
     while end < s.len() {
         let turn = answer_line(state, &s[from..end], out, answers, at);
         state = turn.state;
@@ -56,12 +56,12 @@ fn answer_lines(first: State, s: &[u8], out: &mut [u8], answers: &mut [u8]) -> L
                 printed: false,
             };
         }
-        end = from + line::len_before(&s[from..], 10);
+        end = from + texts::len_before(&s[from..], 10);
     }
     Lines {
         state: state,
         used: from,
-        printed: stream::print(output::prefix(answers, at)),
+        printed: stream::print(texts::prefix(answers, at)),
     }
 }
 
@@ -71,7 +71,7 @@ fn answer_last(state: State, s: &[u8], out: &mut [u8], answers: &mut [u8]) -> bo
         return true;
     }
     let turn = answer_line(state, s, out, answers, 0);
-    turn.printed && stream::print(output::prefix(answers, turn.at))
+    turn.printed && stream::print(texts::prefix(answers, turn.at))
 }
 
 // To the end of the input, in at most 2^64 reads: an input need not end, and this does. Of a line that fills the buffer the first 65,537 bytes are

@@ -35,34 +35,34 @@ pub enum Found {
 pub fn request_named(name: &[u8]) -> Found
     ensures { λ r. ⌜ r ≡ found (requestNamed (now (name .entry))) ⌝ }
 {
-    if line::same(b"client-list", name) {
+    if texts::same(b"client-list", name) {
         return Found::Is(Request::ClientList);
     }
-    if line::same(b"halt", name) {
+    if texts::same(b"halt", name) {
         return Found::Is(Request::Halt);
     }
-    if line::same(b"help", name) {
+    if texts::same(b"help", name) {
         return Found::Is(Request::Help);
     }
-    if line::same(b"log-level", name) {
+    if texts::same(b"log-level", name) {
         return Found::Is(Request::LogLevel);
     }
-    if line::same(b"restart", name) {
+    if texts::same(b"restart", name) {
         return Found::Is(Request::Restart);
     }
-    if line::same(b"sensor-list", name) {
+    if texts::same(b"sensor-list", name) {
         return Found::Is(Request::SensorList);
     }
-    if line::same(b"sensor-sampling", name) {
+    if texts::same(b"sensor-sampling", name) {
         return Found::Is(Request::SensorSampling);
     }
-    if line::same(b"sensor-value", name) {
+    if texts::same(b"sensor-value", name) {
         return Found::Is(Request::SensorValue);
     }
-    if line::same(b"version-list", name) {
+    if texts::same(b"version-list", name) {
         return Found::Is(Request::VersionList);
     }
-    if line::same(b"watchdog", name) {
+    if texts::same(b"watchdog", name) {
         return Found::Is(Request::Watchdog);
     }
     Found::Unknown
@@ -194,7 +194,7 @@ fn tell_client(out: &mut [u8], told: Told, client: u8, id: u64, k: Client) -> To
         return told;
     }
     let address = k.address;
-    let text = output::prefix(&address, k.address_len as usize);
+    let text = texts::prefix(&address, k.address_len as usize);
     let p = message::deliver_one(out, told.at, client, b'#', b"client-list", id, text);
     Told {
         at: p,

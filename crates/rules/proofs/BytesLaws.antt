@@ -6,8 +6,8 @@ use mathlib.Core.Bool.{Bool, true, _&&_}
 use mathlib.Core.List.{List}
 use lib.ListN.{length, drop, getD, drop-of-length-le}
 use Rattle.output.specs.Text.{all}
-use Rattle.line.proofs.At.{at}
-use Rattle.line.proofs.PassLaws.{found-on, found-end}
+use Rattle.texts.proofs.At.{at}
+use Rattle.texts.proofs.PassLaws.{found-on, found-end}
 
 pub record Passing (is : ℕ → Bool) (bytes : List ℕ) (ok : Bool) (i : ℕ) : Type 0 where
   pub inside : i ≤ length bytes

@@ -8,7 +8,7 @@ use lib.Dec.{eqb, leb, ltb}
 use lib.ListN.{length, drop, getD, drop-of-length-le}
 use borrow.Author.Tests.{eqb-true, eq-eqb, ne-eqb, lt-leb, le-leb, le-ltb}
 use Rattle.output.specs.Text.{all}
-use Rattle.line.proofs.At.{at}
+use Rattle.texts.proofs.At.{at}
 use Rattle.machine.specs.declared.Choice.{Choice}
 use Rattle.machine.specs.Places.{allBelow}
 use Rattle.machine.specs.Sheet.{noChoice, choiceNone, choiceOk, zeroByte}

@@ -9,8 +9,8 @@ use lib.ListN.{length, take, drop, getD, drop-of-length-le}
 use lib.Seq.{take-nil, drop-nil}
 use borrow.Author.Tests.{ltb-true, ltb-false}
 use Rattle.output.specs.Text.{all}
-use Rattle.line.proofs.At.{at}
-use Rattle.line.proofs.PassLaws.{found-on, found-end}
+use Rattle.texts.proofs.At.{at}
+use Rattle.texts.proofs.PassLaws.{found-on, found-end}
 use Rattle.machine.specs.Sheet.{zeroByte}
 use Rattle.machine.proofs.PlacesLaws.{length-tabulate, getD-tabulate}
 use Rattle.rules.specs.Texts.{upTo, Counted}

@@ -26,18 +26,12 @@ pub enum Charset {
     Entry,
 }
 
-fn name_byte(b: u8) -> bool
-    ensures { λ r. ⌜ r ≡ sheets.nameByte b ⌝ }
-{
-    line::letter(b) | (output::is_digit(b) | ((b == b'.') | ((b == b'-') | (b == b'_'))))
-}
-
 // Whether a text may have a byte.
 pub fn in_charset(charset: Charset, b: u8) -> bool
     ensures { λ r. ⌜ r ≡ inCharset charset b ⌝ }
 {
     match charset {
-        Charset::Name => name_byte(b),
+        Charset::Name => texts::is_name_byte(b),
         Charset::Graphic => (0x21 <= b) & (b <= 0x7E),
         Charset::Printable => (0x20 <= b) & (b <= 0x7E),
         Charset::Entry => ((0x20 <= b) & (b <= 0x7E)) | ((b == 9) | ((b == 10) | (b == 13))),
@@ -172,7 +166,7 @@ pub fn client_ok(client: Client) -> bool
 fn alike_texts(a_len: u8, a: &[u8], b_len: u8, b: &[u8]) -> bool
     ensures { λ r. ⌜ r ≡ alike «a_len» (now (a .entry)) «b_len» (now (b .entry)) ⌝ }
 {
-    let same = line::same(a, b);
+    let same = texts::same(a, b);
     (a_len == b_len) & same
 }
 

@@ -135,7 +135,7 @@ fn timestamp_of(t: &[u8]) -> Given
 fn without_value(r: Reading, t: &[u8]) -> Given
     ensures { λ g. ⌜ g ≡ scripts.withoutValue r (now (t .entry)) ⌝ }
 {
-    if line::same(t, b"-") {
+    if texts::same(t, b"-") {
         return Given::A(r);
     }
     Given::Unread
@@ -145,13 +145,13 @@ fn without_value(r: Reading, t: &[u8]) -> Given
 fn without_number(kind: &[u8], t: &[u8]) -> Given
     ensures { λ r. ⌜ r ≡ scripts.withoutNumber (now (kind .entry)) (now (t .entry)) ⌝ }
 {
-    if line::same(kind, b"failure") {
+    if texts::same(kind, b"failure") {
         return without_value(Reading::Failure, t);
     }
-    if line::same(kind, b"unreachable") {
+    if texts::same(kind, b"unreachable") {
         return without_value(Reading::Unreachable, t);
     }
-    if line::same(kind, b"inactive") {
+    if texts::same(kind, b"inactive") {
         return without_value(Reading::Inactive, t);
     }
     Given::Unread
@@ -161,19 +161,19 @@ fn without_number(kind: &[u8], t: &[u8]) -> Given
 fn reading_of(kind: &[u8], t: &[u8]) -> Given
     ensures { λ r. ⌜ r ≡ scripts.given (now (kind .entry)) (now (t .entry)) ⌝ }
 {
-    if line::same(kind, b"integer") {
+    if texts::same(kind, b"integer") {
         return integer_of(t);
     }
-    if line::same(kind, b"float") {
+    if texts::same(kind, b"float") {
         return float_of(t);
     }
-    if line::same(kind, b"boolean") {
+    if texts::same(kind, b"boolean") {
         return boolean_of(t);
     }
-    if line::same(kind, b"option") {
+    if texts::same(kind, b"option") {
         return option_of(t);
     }
-    if line::same(kind, b"timestamp") {
+    if texts::same(kind, b"timestamp") {
         return timestamp_of(t);
     }
     without_number(kind, t)

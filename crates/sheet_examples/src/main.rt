@@ -87,7 +87,7 @@ fn print_sensor(sensor: Sensor, r: Stored) -> bool {
     let p = put_options(&mut out, p, sensor);
     let p = put_reading(&mut out, p, sensor, r);
     let p = output::put_byte(&mut out, p, 10);
-    stream::print(output::prefix(&out, p))
+    stream::print(texts::prefix(&out, p))
 }
 
 fn print_sensors(s: State) -> bool {
@@ -119,7 +119,7 @@ fn print_state(s: State) -> bool {
     let p = output::put_time(&mut out, p, s.clock);
     let p = output::put_byte(&mut out, p, b' ');
     let p = output::put_decimal(&mut out, p, s.level as u64);
-    stream::print(output::prefix(&out, p))
+    stream::print(texts::prefix(&out, p))
 }
 
 fn show(label: &[u8], bytes: &[u8]) -> bool {

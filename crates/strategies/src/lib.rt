@@ -34,25 +34,25 @@ pub struct Setting {
 pub fn strategy_named(word: &[u8]) -> u8
     ensures { λ r. ⌜ r ≡ requests.strategyNamed (now (word .entry)) ⌝ }
 {
-    if line::same(b"none", word) {
+    if texts::same(b"none", word) {
         return 0;
     }
-    if line::same(b"auto", word) {
+    if texts::same(b"auto", word) {
         return 1;
     }
-    if line::same(b"period", word) {
+    if texts::same(b"period", word) {
         return 2;
     }
-    if line::same(b"event", word) {
+    if texts::same(b"event", word) {
         return 3;
     }
-    if line::same(b"differential", word) {
+    if texts::same(b"differential", word) {
         return 4;
     }
-    if line::same(b"event-rate", word) {
+    if texts::same(b"event-rate", word) {
         return 5;
     }
-    if line::same(b"differential-rate", word) {
+    if texts::same(b"differential-rate", word) {
         return 6;
     }
     7

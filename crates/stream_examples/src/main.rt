@@ -9,7 +9,7 @@ fn show_count(what: &[u8], n: usize, unit: &[u8]) -> bool {
     let p = output::put_bytes(&mut line, 0, what);
     let p = output::put_decimal(&mut line, p, n as u64);
     let p = output::put_bytes(&mut line, p, unit);
-    stream::print(output::prefix(&line, p))
+    stream::print(texts::prefix(&line, p))
 }
 
 // How many bytes of a word a descriptor takes.

@@ -9,7 +9,7 @@ use lib.ListN.{length}
 use Rattle.output.specs.Text.{text, isDigit}
 use Rattle.message.specs.Message.{Message, message, escapeByte, escape, arg, idText, writeTo}
 use Rattle.message.specs.Delivery.{to}
-use Rattle.line.specs.Line.{blank, letter, nameByte, kindByte, plain, escapeOf, parse, blankLine}
+use Rattle.line.specs.Line.{blank, letter, titleByte, kindByte, plain, escapeOf, parse, blankLine}
 use Rattle.machine.specs.declared.Sheet.{Sheet}
 use Rattle.machine.specs.declared.State.{State}
 use Rattle.machine.specs.declared.Opened.{Opened}
@@ -61,7 +61,7 @@ module _ (lent next : List ℕ) where
     with-console-in-range = subst (λ (e : Effect). inRange (e .next) ≡ true) connect-done (kept-in-range .step-in-range (fresh sheet) fresh-in-range (callOf connecting lent))
 
     asking-fits : actionDeclined sheet with-console asking ≡ 0
-    unfolding withClient tabulate firstBelow actionBy entryOf hasWords wordAt actionDeclined clientDeclined lineDeclined countFits argumentsDeclined levelOf levelText asked requestNamed isDigit blank letter nameByte kindByte plain escapeOf parse blankLine
+    unfolding withClient tabulate firstBelow actionBy entryOf hasWords wordAt actionDeclined clientDeclined lineDeclined countFits argumentsDeclined levelOf levelText asked requestNamed isDigit blank letter titleByte kindByte plain escapeOf parse blankLine
     asking-fits = refl
 
     asking-done : step with-console (callOf asking next) ≡ done (perform sheet with-console asking)
@@ -73,7 +73,7 @@ module _ (lent next : List ℕ) where
     heard = refl
 
     level-set : perform sheet with-console asking ≡ record { sent = to 0 answered ∷ []; next = withLevel with-console 4 }
-    unfolding firstBelow actionBy entryOf hasWords wordAt perform lineWork answer levelOf levelText asked requestNamed isDigit blank letter nameByte kindByte plain escapeOf parse blankLine
+    unfolding firstBelow actionBy entryOf hasWords wordAt perform lineWork answer levelOf levelText asked requestNamed isDigit blank letter titleByte kindByte plain escapeOf parse blankLine
     level-set = refl
 
     facts : Facts (fresh sheet)

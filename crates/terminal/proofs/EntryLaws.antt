@@ -9,7 +9,7 @@ use mathlib.Core.Option.{Option, none, some}
 use borrow.Author.Tests.{eq-eqb, ne-eqb}
 use lib.ListN.{length, take, drop, getD}
 use Rattle.output.specs.Text.{text, same}
-use Rattle.line.proofs.At.{to-end}
+use Rattle.texts.proofs.At.{to-end}
 use Rattle.input.specs.declared.Number.the-variants.{Is, Bad}
 use Rattle.input.specs.Words.{isNatural, numberOf}
 use Rattle.terminal.specs.Entry.{natural, isWhole}

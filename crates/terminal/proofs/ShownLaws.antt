@@ -8,7 +8,7 @@ use lib.Dec.{eqb}
 use lib.ListN.{length, take, drop, getD, length-drop}
 use lib.Seq.{drop-drop}
 use Rattle.message.specs.Delivery.{cutIn, cut}
-use Rattle.line.proofs.At.{at, at2, up-to-end}
+use Rattle.texts.proofs.At.{at, at2, up-to-end}
 use Rattle.machine.specs.Places.{joined}
 use Rattle.machine.specs.TwoDevices.{linesTo}
 use Rattle.terminal.specs.Shown.{shownTo}

@@ -48,7 +48,7 @@ fn is_whole(t: &[u8]) -> bool
     }
     if t[0] == b'-' {
         let size = &t[1..];
-        return input::is_natural(size) & !line::same(size, b"0");
+        return input::is_natural(size) & !texts::same(size, b"0");
     }
     input::is_natural(t)
 }

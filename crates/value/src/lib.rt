@@ -266,6 +266,13 @@ pub fn put_arg_status(out: &mut [u8], at: usize, status: u8) -> usize
     }
 }
 
+// The first n bytes of s, written at `at`.
+fn put_prefix(out: &mut [u8], at: usize, s: &[u8], n: usize) -> usize
+    ensures { λ r. ⌜ Wrote (output (now (out .entry)) at) (take n (now (s .entry))) (output (now (out .exit)) r) ⌝ }
+{
+    output::put_bytes(out, at, texts::prefix(s, n))
+}
+
 // The text of the stored number `n` of a type, without escapes. A discrete value is the option that it names, `len` bytes of `option`.
 pub fn put_value(out: &mut [u8], at: usize, kind: u8, option: &[u8], len: usize, n: u64) -> usize
     ensures { λ r. ⌜ Wrote (output (now (out .entry)) at) (valueText kind (take len (now (option .entry))) n) (output (now (out .exit)) r) ⌝ }
@@ -274,7 +281,7 @@ pub fn put_value(out: &mut [u8], at: usize, kind: u8, option: &[u8], len: usize,
         1 => output::put_integer(out, at, n),
         2 => output::put_float(out, at, n),
         3 => output::put_decimal(out, at, n),
-        4 => output::put_prefix(out, at, option, len),
+        4 => put_prefix(out, at, option, len),
         _ => output::put_time(out, at, n),
     }
 }
@@ -303,20 +310,6 @@ pub fn put_arg_value(
 pub enum Parameter {
     Is(u64),
     Bad,
-}
-
-// How many digits t starts with.
-pub fn digits_len(t: &[u8]) -> usize
-    ensures { λ r. ⌜ r ≡ length (whole (now (t .entry))) ⌝ }
-{
-    let mut i = 0;
-    while i < t.len() {
-        if !output::is_digit(t[i]) {
-            return i;
-        }
-        i += 1;
-    }
-    i
 }
 
 // The number of a digit, 0 for a byte below the digits.
@@ -397,7 +390,7 @@ fn fraction_ok(s: &[u8]) -> bool
         return true;
     }
     let rest = behind_point(s);
-    (s[0] == b'.') & ((1 <= rest.len()) & (digits_len(rest) == rest.len()))
+    (s[0] == b'.') & ((1 <= rest.len()) & (texts::digits_len(rest) == rest.len()))
 }
 
 // A plain decimal with at most `places` fraction digits, counted in units of 10^-places, from `least` to `most`.
@@ -405,7 +398,7 @@ fn read_decimal(t: &[u8], places: usize, least: u64, most: u64) -> Parameter
     requires { ⌜ (places ≤ 6) × (most < 10000000000 * 10 ^ places) ⌝ }
     ensures { λ r. ⌜ r ≡ cond (decimalOk places least most (now (t .entry))) (Parameter.Is (units places (now (t .entry)))) Parameter.Bad ⌝ }
 {
-    let n = digits_len(t);
+    let n = texts::digits_len(t);
     let whole = &t[..n];
     let behind = &t[n..];
     let plain = whole_ok(whole) & fraction_ok(behind);

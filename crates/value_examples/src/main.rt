@@ -14,10 +14,10 @@ fn print_difference(p: Parameter, whole: bool) -> bool {
     };
     if whole {
         let n = output::put_whole_difference(&mut out, 0, d);
-        return stream::print(output::prefix(&out, n));
+        return stream::print(texts::prefix(&out, n));
     }
     let n = output::put_difference(&mut out, 0, d);
-    stream::print(output::prefix(&out, n))
+    stream::print(texts::prefix(&out, n))
 }
 
 fn print_period(p: Parameter) -> bool {
@@ -26,7 +26,7 @@ fn print_period(p: Parameter) -> bool {
         return stream::print(b"19");
     };
     let n = output::put_time(&mut out, 0, ms);
-    stream::print(output::prefix(&out, n))
+    stream::print(texts::prefix(&out, n))
 }
 
 // The double with these bits.
@@ -44,7 +44,7 @@ fn print_double(bits: u64) -> bool {
         return stream::print(b"10");
     };
     let n = value::put_value(&mut out, 0, 2, b"", 0, s.number);
-    stream::print(output::prefix(&out, n))
+    stream::print(texts::prefix(&out, n))
 }
 
 // The number of a hex digit, 16 for any other byte.
@@ -116,7 +116,7 @@ fn show(text: &[u8]) -> bool {
 fn show_lines(s: &[u8]) -> bool {
     let mut at = 0;
     while at < s.len() {
-        let e = at + line::len_before(&s[at..], 10);
+        let e = at + texts::len_before(&s[at..], 10);
         if !show(&s[at..e]) {
             return false;
         }

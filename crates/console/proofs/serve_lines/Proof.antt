@@ -6,7 +6,7 @@ use mathlib.Core.Path.{_≡_}
 use lib.ListN.{length}
 use Rattle.output.specs.Read.{other}
 use Rattle.output.proofs.RunLaws.{run-le}
-use Rattle.line.proofs.BeforeLaws.{before-fits}
+use Rattle.texts.proofs.BeforeLaws.{before-fits}
 use Rattle.console.proofs.serve_lines.Statement.{statement}
 use Rattle.console.proofs.serve_lines.Tie as tie
 

@@ -4,7 +4,7 @@ use native.Mathlib.Omega.{arith}
 use Prim.Native.Nat.{_≤_, _-_, _+_}
 use mathlib.Core.Path.{_≡_}
 use lib.ListN.{length}
-use Rattle.line.proofs.BeforeLaws.{before-fits}
+use Rattle.texts.proofs.BeforeLaws.{before-fits}
 use Rattle.console_examples.proofs.show_lines.Statement.{statement}
 use Rattle.console_examples.proofs.show_lines.Tie as tie
 

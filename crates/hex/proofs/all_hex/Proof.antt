@@ -6,8 +6,8 @@ use mathlib.Core.Path.{_≡_, refl}
 use mathlib.Core.Bool.{_&&_}
 use lib.ListN.{length, drop, drop-of-length-le}
 use Rattle.output.specs.Text.{all}
-use Rattle.line.proofs.At.{at}
-use Rattle.line.proofs.PassLaws.{found-on, found-end}
+use Rattle.texts.proofs.At.{at}
+use Rattle.texts.proofs.PassLaws.{found-on, found-end}
 use Rattle.hex.specs.Hex.{isHex}
 use Rattle.hex.proofs.all_hex.Statement.{statement}
 use Rattle.hex.proofs.all_hex.Tie as tie

@@ -12,7 +12,7 @@ use Rattle.input.proofs.word.Reads as word
 use Rattle.input.proofs.word.Kinds as word-kinds
 use Rattle.input.proofs.+word.Lts-word as word-lts
 use Rattle.input.proofs.behind_space.Reads as behind-space-reads
-use Rattle.line.proofs.len_before.Reads as len-before-reads
+use Rattle.texts.proofs.len_before.Reads as len-before-reads
 use Rattle.input.proofs.+word.{statement}
 use Rattle.input.proofs.+word.Tie.{close}
 

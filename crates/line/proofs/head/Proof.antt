@@ -6,7 +6,7 @@ use mathlib.Core.Path.{sym, ap, _∙_}
 use mathlib.Core.List.{List}
 use lib.ListN.{getD}
 use Rattle.line.specs.Answer.{namedRead}
-use Rattle.line.proofs.At.{to-end}
+use Rattle.texts.proofs.At.{to-end}
 use Rattle.line.proofs.HeadLaws as H
 use Rattle.line.proofs.head.Statement.{statement}
 use Rattle.line.proofs.head.Tie as tie

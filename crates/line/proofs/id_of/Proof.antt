@@ -2,7 +2,7 @@
 use borrow.Author.Needs.{needs}
 use mathlib.Core.Path.{sym, ap, _∙_}
 use Rattle.line.specs.Line.{idFrom}
-use Rattle.line.proofs.At.{to-end}
+use Rattle.texts.proofs.At.{to-end}
 use Rattle.line.proofs.IdLaws.{no-id, not-id, an-id}
 use Rattle.line.proofs.id_of.Statement.{statement}
 use Rattle.line.proofs.id_of.Tie as tie

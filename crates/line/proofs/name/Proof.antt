@@ -2,7 +2,7 @@
 use borrow.Author.Needs.{needs}
 use mathlib.Core.Path.{ap, _∙_}
 use lib.ListN.{take}
-use Rattle.line.proofs.At.{to-end}
+use Rattle.texts.proofs.At.{to-end}
 use Rattle.line.proofs.Carried.{no-name}
 use Rattle.line.proofs.name.Statement.{statement}
 use Rattle.line.proofs.name.Tie as tie

@@ -5,8 +5,8 @@ use mathlib.Core.Path.{sym, ap, _∙_}
 use native.Mathlib.Omega.{arith}
 use Rattle.output.proofs.RunLaws.{run-le}
 use Rattle.line.specs.declared.Identifier.the-variants.{Bad, Is}
-use Rattle.line.specs.Line.{nameByte, idOf}
-use Rattle.line.proofs.At.{to-end}
+use Rattle.line.specs.Line.{titleByte, idOf}
+use Rattle.texts.proofs.At.{to-end}
 use Rattle.line.proofs.HeadLaws as H
 use Rattle.line.proofs.named.Statement.{statement}
 use Rattle.line.proofs.named.Tie as tie
@@ -20,20 +20,20 @@ returns c = H.long (c .before .before .before .args .t .now) (c .before .before 
 returns-2 : tie.Need-returns-2
 returns-2 c = H.empty (c .before .before .before .before .args .t .now) (c .before .before .before .before .args .kind) (c .before .before .before .before .args .count) (c .before .before .name-len .result) (c .before .before .name-len .ensures) (c .if2 .taken)
 
-shared-slice-read-letter : tie.Need-shared-slice-read-letter
-shared-slice-read-letter c = omega (arith, run-le nameByte (c .before .before .before .before .before .args .t .now), c .before .before .before .name-len .ensures, c .before .if2 .left)
+shared-slice-read-letter : tie.Need-shared-slice-read-is-letter
+shared-slice-read-letter c = omega (arith, run-le titleByte (c .before .before .before .before .before .args .t .now), c .before .before .before .name-len .ensures, c .before .if2 .left)
 
-letter-requires : tie.Need-letter-requires
+letter-requires : tie.Need-is-letter-requires
 letter-requires c κs = search needs
 
 returns-3 : tie.Need-returns-3
-returns-3 c = H.not-letter (c .before .before .before .before .before .before .before .args .t .now) (c .before .before .before .before .before .before .before .args .kind) (c .before .before .before .before .before .before .before .args .count) (c .before .before .before .before .before .name-len .result) (c .before .before .before .before .before .name-len .ensures) (c .before .before .before .if2 .left) (sym (c .before .letter .ensures) ∙ not-true _ (c .if3 .taken))
+returns-3 c = H.not-letter (c .before .before .before .before .before .before .before .args .t .now) (c .before .before .before .before .before .before .before .args .kind) (c .before .before .before .before .before .before .before .args .count) (c .before .before .before .before .before .name-len .result) (c .before .before .before .before .before .name-len .ensures) (c .before .before .before .if2 .left) (sym (c .before .is-letter .ensures) ∙ not-true _ (c .if3 .taken))
 
 sub-id-of : tie.Need-sub-id-of
-sub-id-of c = omega (arith, run-le nameByte (c .before .before .before .before .before .before .before .args .t .now), c .before .before .before .before .before .name-len .ensures)
+sub-id-of c = omega (arith, run-le titleByte (c .before .before .before .before .before .before .before .args .t .now), c .before .before .before .before .before .name-len .ensures)
 
 part-id-of-start : tie.Need-part-id-of-start
-part-id-of-start c = omega (arith, run-le nameByte (c .before .before .before .before .before .before .before .args .t .now), c .before .before .before .before .before .name-len .ensures)
+part-id-of-start c = omega (arith, run-le titleByte (c .before .before .before .before .before .before .before .args .t .now), c .before .before .before .before .before .name-len .ensures)
 
 part-id-of-end : tie.Need-part-id-of-end
 part-id-of-end c = search needs
@@ -48,10 +48,10 @@ enum-told : tie.Need-enum-told
 enum-told c = search needs
 
 returns-4 : tie.Need-returns-4
-returns-4 c = H.decides (c .before .before .before .before .before .before .before .before .before .before .before .args .t .now) (c .before .before .before .before .before .before .before .before .before .before .before .args .kind) (c .before .before .before .before .before .before .before .before .before .before .before .args .count) (c .before .before .before .before .before .before .before .before .before .name-len .result) (c .before .before .before .before .before .before .before .before .before .name-len .ensures) (omega arith) (c .before .before .before .before .before .before .before .if2 .left) (sym (c .before .before .before .before .before .letter .ensures) ∙ not-false _ (c .before .before .before .before .if3 .left)) Bad (sym (c .enum-told .given .1) ∙ c .before .before .id-of .ensures ∙ ap idOf (to-end (c .before .before .before .before .before .before .before .before .before .before .before .args .t .now) (c .before .before .before .before .before .before .before .before .before .name-len .result)))
+returns-4 c = H.decides (c .before .before .before .before .before .before .before .before .before .before .before .args .t .now) (c .before .before .before .before .before .before .before .before .before .before .before .args .kind) (c .before .before .before .before .before .before .before .before .before .before .before .args .count) (c .before .before .before .before .before .before .before .before .before .name-len .result) (c .before .before .before .before .before .before .before .before .before .name-len .ensures) (omega arith) (c .before .before .before .before .before .before .before .if2 .left) (sym (c .before .before .before .before .before .is-letter .ensures) ∙ not-false _ (c .before .before .before .before .if3 .left)) Bad (sym (c .enum-told .given .1) ∙ c .before .before .id-of .ensures ∙ ap idOf (to-end (c .before .before .before .before .before .before .before .before .before .before .before .args .t .now) (c .before .before .before .before .before .before .before .before .before .name-len .result)))
 
 returns-5 : tie.Need-returns-5
-returns-5 c = H.decides (c .before .before .before .before .before .before .before .before .before .before .before .before .args .t .now) (c .before .before .before .before .before .before .before .before .before .before .before .before .args .kind) (c .before .before .before .before .before .before .before .before .before .before .before .before .args .count) (c .before .before .before .before .before .before .before .before .before .before .name-len .result) (c .before .before .before .before .before .before .before .before .before .before .name-len .ensures) (omega arith) (c .before .before .before .before .before .before .before .before .if2 .left) (sym (c .before .before .before .before .before .before .letter .ensures) ∙ not-false _ (c .before .before .before .before .before .if3 .left)) (Is (c .before .id .given .0 .0)) (sym (c .before .id .given .1) ∙ c .before .before .before .id-of .ensures ∙ ap idOf (to-end (c .before .before .before .before .before .before .before .before .before .before .before .before .args .t .now) (c .before .before .before .before .before .before .before .before .before .before .name-len .result)))
+returns-5 c = H.decides (c .before .before .before .before .before .before .before .before .before .before .before .before .args .t .now) (c .before .before .before .before .before .before .before .before .before .before .before .before .args .kind) (c .before .before .before .before .before .before .before .before .before .before .before .before .args .count) (c .before .before .before .before .before .before .before .before .before .before .name-len .result) (c .before .before .before .before .before .before .before .before .before .before .name-len .ensures) (omega arith) (c .before .before .before .before .before .before .before .before .if2 .left) (sym (c .before .before .before .before .before .before .is-letter .ensures) ∙ not-false _ (c .before .before .before .before .before .if3 .left)) (Is (c .before .id .given .0 .0)) (sym (c .before .id .given .1) ∙ c .before .before .before .id-of .ensures ∙ ap idOf (to-end (c .before .before .before .before .before .before .before .before .before .before .before .before .args .t .now) (c .before .before .before .before .before .before .before .before .before .before .name-len .result)))
 
 pub named-spec : {M : Type 1} → statement M
 named-spec =

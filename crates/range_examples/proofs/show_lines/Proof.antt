@@ -3,7 +3,7 @@ use borrow.Author.Needs.{needs}
 use native.Mathlib.Omega.{arith}
 use Prim.Native.Nat.{_≤_, _-_, _+_}
 use lib.ListN.{length}
-use Rattle.line.proofs.BeforeLaws.{before-fits}
+use Rattle.texts.proofs.BeforeLaws.{before-fits}
 use Rattle.range_examples.proofs.show_lines.Statement.{statement}
 use Rattle.range_examples.proofs.show_lines.Tie as tie
 

@@ -1,0 +1,4 @@
+pub mod At
+pub mod PassLaws
+pub mod BeforeLaws
+pub mod TableLaws
