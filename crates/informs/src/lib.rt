@@ -70,51 +70,21 @@ pub fn deliver_versions(
     deliver_device(out, p, client, name, id, sheet)
 }
 
+// The words of the log levels, by their numbers.
+const LEVELS: [u8; 41] = *b"off|fatal|error|warn|info|debug|trace|all";
+
 // The word of a log level as an argument.
 pub fn put_arg_level(out: &mut [u8], at: usize, level: u8) -> usize
     ensures { λ r. ⌜ Wrote (output (now (out .entry)) at) (arg (messages.levelText level)) (output (now (out .exit)) r) ⌝ }
 {
-    match level {
-        0 => message::put_arg(out, at, b"off"),
-        1 => message::put_arg(out, at, b"fatal"),
-        2 => message::put_arg(out, at, b"error"),
-        3 => message::put_arg(out, at, b"warn"),
-        4 => message::put_arg(out, at, b"info"),
-        5 => message::put_arg(out, at, b"debug"),
-        6 => message::put_arg(out, at, b"trace"),
-        _ => message::put_arg(out, at, b"all"),
-    }
+    message::put_arg(out, at, texts::word_of(&LEVELS, level as usize))
 }
 
 // The level of a word; 8 where no level has it.
 pub fn level_named(word: &[u8]) -> u8
     ensures { λ r. ⌜ r ≡ levelOf (now (word .entry)) ⌝ }
 {
-    if texts::same(b"off", word) {
-        return 0;
-    }
-    if texts::same(b"fatal", word) {
-        return 1;
-    }
-    if texts::same(b"error", word) {
-        return 2;
-    }
-    if texts::same(b"warn", word) {
-        return 3;
-    }
-    if texts::same(b"info", word) {
-        return 4;
-    }
-    if texts::same(b"debug", word) {
-        return 5;
-    }
-    if texts::same(b"trace", word) {
-        return 6;
-    }
-    if texts::same(b"all", word) {
-        return 7;
-    }
-    8
+    texts::place_of(&LEVELS, word) as u8
 }
 
 // The line of a log entry, from the start of out: its length.

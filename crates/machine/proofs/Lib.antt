@@ -2,6 +2,7 @@ pub mod TestLaws
 pub mod PlacesLaws
 pub mod AnyLaws
 pub mod FirstLaws
+pub mod WordTables
 pub mod FoundLaws
 pub mod StoreLaws
 pub mod ArrayLaws

@@ -31,41 +31,26 @@ pub enum Found {
     Unknown,
 }
 
+// The names of the requests, in the order of `Request`.
+const REQUESTS: [u8; 102] = *b"client-list|halt|help|log-level|restart|sensor-list|sensor-sampling|sensor-value|version-list|watchdog";
+
 // The request of a name.
 pub fn request_named(name: &[u8]) -> Found
     ensures { λ r. ⌜ r ≡ found (requestNamed (now (name .entry))) ⌝ }
 {
-    if texts::same(b"client-list", name) {
-        return Found::Is(Request::ClientList);
+    match texts::place_of(&REQUESTS, name) {
+        0 => Found::Is(Request::ClientList),
+        1 => Found::Is(Request::Halt),
+        2 => Found::Is(Request::Help),
+        3 => Found::Is(Request::LogLevel),
+        4 => Found::Is(Request::Restart),
+        5 => Found::Is(Request::SensorList),
+        6 => Found::Is(Request::SensorSampling),
+        7 => Found::Is(Request::SensorValue),
+        8 => Found::Is(Request::VersionList),
+        9 => Found::Is(Request::Watchdog),
+        _ => Found::Unknown,
     }
-    if texts::same(b"halt", name) {
-        return Found::Is(Request::Halt);
-    }
-    if texts::same(b"help", name) {
-        return Found::Is(Request::Help);
-    }
-    if texts::same(b"log-level", name) {
-        return Found::Is(Request::LogLevel);
-    }
-    if texts::same(b"restart", name) {
-        return Found::Is(Request::Restart);
-    }
-    if texts::same(b"sensor-list", name) {
-        return Found::Is(Request::SensorList);
-    }
-    if texts::same(b"sensor-sampling", name) {
-        return Found::Is(Request::SensorSampling);
-    }
-    if texts::same(b"sensor-value", name) {
-        return Found::Is(Request::SensorValue);
-    }
-    if texts::same(b"version-list", name) {
-        return Found::Is(Request::VersionList);
-    }
-    if texts::same(b"watchdog", name) {
-        return Found::Is(Request::Watchdog);
-    }
-    Found::Unknown
 }
 
 // Whether a request takes so many arguments.
@@ -236,16 +221,14 @@ fn tell_request(out: &mut [u8], at: usize, client: u8, id: u64, request: &[u8]) 
 fn tell_requests(out: &mut [u8], client: u8, id: u64) -> usize
     ensures { λ r. ⌜ Sent (output (now (out .entry)) 0) (messages.allTo client (map (messages.helpInform id) (map (λ (r : Row). r .name) requests))) (output (now (out .exit)) r) ⌝ }
 {
-    let p = tell_request(out, 0, client, id, b"client-list");
-    let p = tell_request(out, p, client, id, b"halt");
-    let p = tell_request(out, p, client, id, b"help");
-    let p = tell_request(out, p, client, id, b"log-level");
-    let p = tell_request(out, p, client, id, b"restart");
-    let p = tell_request(out, p, client, id, b"sensor-list");
-    let p = tell_request(out, p, client, id, b"sensor-sampling");
-    let p = tell_request(out, p, client, id, b"sensor-value");
-    let p = tell_request(out, p, client, id, b"version-list");
-    tell_request(out, p, client, id, b"watchdog")
+    let count = texts::word_count(&REQUESTS);
+    let mut at: usize = 0;
+    let mut k: usize = 0;
+    while k < count {
+        at = tell_request(out, at, client, id, texts::word_of(&REQUESTS, k));
+        k += 1;
+    }
+    at
 }
 
 // `help`: the request that is named, or all.
@@ -257,7 +240,7 @@ pub fn help(out: &mut [u8], client: u8, name: &[u8], id: u64, named: bool, reque
         return deliver_count(out, p, client, name, id, 1);
     }
     let p = tell_requests(out, client, id);
-    deliver_count(out, p, client, name, id, 10)
+    deliver_count(out, p, client, name, id, texts::word_count(&REQUESTS))
 }
 
 // `version-list`: what a newcomer is told.

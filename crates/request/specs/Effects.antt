@@ -2,7 +2,9 @@
 use Prim.Native.Nat.{ℕ, zero, suc}
 use Prim.Native.Char.{code}
 use mathlib.Core.Path.{_≡_}
+use mathlib.Core.Bool.{cond, _||_}
 use mathlib.Core.List.{List, [], _∷_}
+use lib.Dec.{eqb}
 use Rattle.output.specs.Text.{text}
 use Rattle.output.specs.Output.{output}
 use Rattle.message.specs.Message.{Message, message}
@@ -43,6 +45,10 @@ queryEffect s c m j = done (sendsOnly s (to c (samplingReply m (argument m 0) (s
 -- a strategy set for the sensors at places
 abbrev pub settingEffect : State → ℕ → Message → List ℕ → Strategy → Effect
 settingEffect s c m js st = done (record { sent = sampledSends (s .sheet) s c m js st; next = withPairs s (sampledPairs s c js st) })
+
+-- the place of a row's code among `invalid` and `fail`
+abbrev pub codePlace : ℕ → ℕ
+codePlace n = cond (eqb n 16 || (eqb n 18 || eqb n 23)) 1 0
 
 -- a line that is refused with a log entry
 abbrev pub complained : State → ℕ → ℕ → List ℕ → Effect

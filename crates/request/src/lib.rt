@@ -520,18 +520,21 @@ fn carry_out(
     }
 }
 
-// A reply of `invalid` and its reason.
-fn invalid(out: &mut [u8], client: u8, name: &[u8], id: u64, why: &[u8]) -> usize
-    ensures { λ r. ⌜ Sent (output (now (out .entry)) 0) (to client (messages.reply (asking (now (name .entry)) id) (text "invalid" ∷ now (why .entry) ∷ [])) ∷ []) (output (now (out .exit)) r) ⌝ }
-{
-    message::deliver_two(out, 0, client, b'!', name, id, b"invalid", why)
-}
+// The texts of the rows 12 to 23.
+const REFUSALS: [u8; 231] = *b"Not a message.|Unexpected reply.|Unknown request.|Wrong number of arguments.|Unknown sensor.|Unknown strategy.|Strategy not for this type.|Bad parameter.|Shortest exceeds longest.|Sensor named twice.|Unknown level.|Unknown request.";
 
-// A reply of `fail` and its reason.
-fn fail(out: &mut [u8], client: u8, name: &[u8], id: u64, why: &[u8]) -> usize
-    ensures { λ r. ⌜ Sent (output (now (out .entry)) 0) (to client (messages.reply (asking (now (name .entry)) id) (text "fail" ∷ now (why .entry) ∷ [])) ∷ []) (output (now (out .exit)) r) ⌝ }
+// The codes of a reply that refuses.
+const CODES: [u8; 12] = *b"invalid|fail";
+
+// The place of a row's code among them.
+fn code_of(number: u8) -> usize
+    ensures { λ r. ⌜ r ≡ effects.codePlace number ⌝ }
 {
-    message::deliver_two(out, 0, client, b'!', name, id, b"fail", why)
+    if (number == 16) | ((number == 18) | (number == 23)) {
+        1
+    } else {
+        0
+    }
 }
 
 // The reply of the row that declines a request.
@@ -539,18 +542,9 @@ fn deliver_refusal(out: &mut [u8], client: u8, name: &[u8], id: u64, number: u8)
     requires { ⌜ (14 ≤ number) × (number ≤ 23) ⌝ }
     ensures { λ r. ⌜ Sent (output (now (out .entry)) 0) (to client (messages.refusalReply (asking (now (name .entry)) id) number) ∷ []) (output (now (out .exit)) r) ⌝ }
 {
-    match number {
-        14 => invalid(out, client, name, id, b"Unknown request."),
-        15 => invalid(out, client, name, id, b"Wrong number of arguments."),
-        16 => fail(out, client, name, id, b"Unknown sensor."),
-        17 => invalid(out, client, name, id, b"Unknown strategy."),
-        18 => fail(out, client, name, id, b"Strategy not for this type."),
-        19 => invalid(out, client, name, id, b"Bad parameter."),
-        20 => invalid(out, client, name, id, b"Shortest exceeds longest."),
-        21 => invalid(out, client, name, id, b"Sensor named twice."),
-        22 => invalid(out, client, name, id, b"Unknown level."),
-        _ => fail(out, client, name, id, b"Unknown request."),
-    }
+    let code = texts::word_of(&CODES, code_of(number));
+    let why = texts::word_of(&REFUSALS, number as usize - 12);
+    message::deliver_two(out, 0, client, b'!', name, id, code, why)
 }
 
 // A request that a row declines: its reply, and the state as it was.
@@ -584,9 +578,11 @@ fn answer_request(state: State, client: u8, line: &[u8], head: Header, out: &mut
 }
 
 // A line that is no request: an entry to its sender, at every log level.
-fn complain(state: State, client: u8, number: u8, why: &[u8], out: &mut [u8]) -> Answer
-    ensures { λ r. ⌜ effects.Gives (effects.complained state client number (now (why .entry))) (now (out .entry)) r (now (out .exit)) ⌝ }
+fn complain(state: State, client: u8, number: u8, out: &mut [u8]) -> Answer
+    requires { ⌜ 12 ≤ number ⌝ }
+    ensures { λ r. ⌜ effects.Gives (effects.complained state client number (messages.refusalText number)) (now (out .entry)) r (now (out .exit)) ⌝ }
 {
+    let why = texts::word_of(&REFUSALS, number as usize - 12);
     let written = informs::deliver_entry(out, 0, client, 2, state.clock, b"katcp", why);
     Answer {
         number: number,
@@ -601,13 +597,13 @@ fn answer_line(state: State, client: u8, line: &[u8], out: &mut [u8]) -> Answer
     ensures { λ r. ⌜ effects.Gives (effects.lineEffect state client (requests.askedBy (parse (now (line .entry))))) (now (out .entry)) r (now (out .exit)) ⌝ }
 {
     let Parsed::Message(head) = line::read(line) else {
-        return complain(state, client, 12, b"Not a message.", out);
+        return complain(state, client, 12, out);
     };
     if head.kind == b'#' {
         return answered(state, 0);
     }
     if head.kind == b'!' {
-        return complain(state, client, 13, b"Unexpected reply.", out);
+        return complain(state, client, 13, out);
     }
     answer_request(state, client, line, head, out)
 }

@@ -30,32 +30,14 @@ pub struct Setting {
     pub strategy: Strategy,
 }
 
+// The words of the strategies, none first.
+const STRATEGIES: [u8; 64] = *b"none|auto|period|event|differential|event-rate|differential-rate";
+
 // The place of a word among those of the strategies, none first; 7 where no strategy has it.
 pub fn strategy_named(word: &[u8]) -> u8
     ensures { λ r. ⌜ r ≡ requests.strategyNamed (now (word .entry)) ⌝ }
 {
-    if texts::same(b"none", word) {
-        return 0;
-    }
-    if texts::same(b"auto", word) {
-        return 1;
-    }
-    if texts::same(b"period", word) {
-        return 2;
-    }
-    if texts::same(b"event", word) {
-        return 3;
-    }
-    if texts::same(b"differential", word) {
-        return 4;
-    }
-    if texts::same(b"event-rate", word) {
-        return 5;
-    }
-    if texts::same(b"differential-rate", word) {
-        return 6;
-    }
-    7
+    texts::place_of(&STRATEGIES, word) as u8
 }
 
 // That place.
@@ -77,15 +59,7 @@ fn kind_of(strategy: Strategy) -> u8
 fn put_arg_word(out: &mut [u8], at: usize, kind: u8) -> usize
     ensures { λ r. ⌜ Wrote (output (now (out .entry)) at) (arg (messages.strategyText kind)) (output (now (out .exit)) r) ⌝ }
 {
-    match kind {
-        0 => message::put_arg(out, at, b"none"),
-        1 => message::put_arg(out, at, b"auto"),
-        2 => message::put_arg(out, at, b"period"),
-        3 => message::put_arg(out, at, b"event"),
-        4 => message::put_arg(out, at, b"differential"),
-        5 => message::put_arg(out, at, b"event-rate"),
-        _ => message::put_arg(out, at, b"differential-rate"),
-    }
+    message::put_arg(out, at, texts::word_of(&STRATEGIES, kind as usize))
 }
 
 // A difference as it is written for a sensor.

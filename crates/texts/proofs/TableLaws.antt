@@ -52,7 +52,7 @@ module _ (t : List ℕ) (from n : ℕ) (inside : from ≤ length t) (e : n ≡ l
           rw (le-leb (from + n + 1) (length t) (omega (arith, length-drop from t))) (ap wordsOf (drop-drop (suc n) from t ∙ ap (λ (m : ℕ). drop m t) i))
 
 -- the word at a place among words, the last one from its place on
-abbrev pick : List (List ℕ) → ℕ → List ℕ
+abbrev pub pick : List (List ℕ) → ℕ → List ℕ
 pick ws k = getD (front ws) k (final ws)
 
 pick-last : (ws : List (List ℕ)) (w : List ℕ) (k : ℕ) → ws ≡ [] → pick (w ∷ ws) k ≡ w
@@ -63,6 +63,23 @@ pick-first ws vs w v e = rw e
 
 pick-next : (ws vs : List (List ℕ)) (w v : List ℕ) (k : ℕ) → ws ≡ v ∷ vs → pick (w ∷ ws) (suc k) ≡ pick ws k
 pick-next ws vs w v k e = rw e
+
+-- a place below the number of words has its own
+pub pick-at : (ws : List (List ℕ)) (k : ℕ) → k < length ws → pick ws k ≡ getD ws k []
+pick-at [] k h = absurd (omega arith)
+pick-at (w ∷ []) zero h = refl
+pick-at (w ∷ []) (suc k) h = absurd (omega arith)
+pick-at (w ∷ (v ∷ ws)) zero h = refl
+pick-at (w ∷ (v ∷ ws)) (suc k) h = pick-at (v ∷ ws) k (omega arith)
+
+-- a place is that of a word, or their number
+pub place-few : (ws : List (List ℕ)) (word : List ℕ) → placeIn ws word ≤ length ws
+place-few [] word = omega arith
+place-few (w ∷ ws) word = go (same w word) (place-few ws word)
+  where
+    go : (b : Bool) → placeIn ws word ≤ length ws → cond b 0 (suc (placeIn ws word)) ≤ suc (length ws)
+    go true h = omega arith
+    go false h = omega arith
 
 -- the code's `&table[from..]`
 rest-len : (t : List ℕ) (from n : ℕ) → n ≡ length (upTo bar (take (length t - from) (drop from t))) → n ≡ length (upTo bar (drop from t))
