@@ -20,17 +20,8 @@ abbrev μ-loop : tie.MeasureT-loop
 loop-holds : tie.Need-loop-holds Inv-loop μ-loop
 loop-holds c = omega arith
 
-shared-slice-read-if1 : tie.Need-shared-slice-read-if1 Inv-loop μ-loop
-shared-slice-read-if1 c = search needs
-
 returns : tie.Need-returns Inv-loop μ-loop
 returns c = omega (arith, run.run-stops (other (c .before .before .before .before .args .stop)) (c .before .before .before .before .args .s .now) (c .before .before .before .loop .i) (omega arith) (ap not (eq-eqb _ _ (c .if1 .taken))))
-
-add-i : tie.Need-add-i Inv-loop μ-loop
-add-i c = search needs
-
-loop-less : tie.Need-loop-less Inv-loop μ-loop
-loop-less c = search needs
 
 loop-again : tie.Need-loop-again Inv-loop μ-loop
 loop-again c = omega (arith, run.run-goes (other (c .before .before .before .before .args .stop)) (c .before .before .before .before .args .s .now) (c .before .before .before .loop .i) (omega arith) (ap not (ne-eqb _ _ (c .if1 .left))))
@@ -40,14 +31,4 @@ returns-2 c = omega (arith, run.run-over (other (c .before .before .args .stop))
 
 pub len-before-spec : {M : Type 1} → statement M
 len-before-spec =
-    tie.close
-    (tie.spec
-    Inv-loop
-    μ-loop
-    loop-holds
-    shared-slice-read-if1
-    returns
-    add-i
-    loop-less
-    loop-again
-    returns-2)
+    tie.close (tie.spec Inv-loop μ-loop loop-holds (λ c. search needs) returns (λ c. search needs) (λ c. search needs) loop-again returns-2)

@@ -19,20 +19,8 @@ abbrev μ-loop : tie.MeasureT-loop
 loop-holds : tie.Need-loop-holds Inv-loop μ-loop
 loop-holds c = omega arith
 
-shared-slice-read-name-byte : tie.Need-shared-slice-read-name-byte Inv-loop μ-loop
-shared-slice-read-name-byte c = search needs
-
-name-byte-requires : tie.Need-name-byte-requires Inv-loop μ-loop
-name-byte-requires c κs = search needs
-
 returns : tie.Need-returns Inv-loop μ-loop
 returns c = omega (arith, run.run-stops nameByte (c .before .before .before .before .before .before .args .s .now) (c .before .before .before .before .loop .i) (omega arith) (sym (c .before .name-byte .ensures) ∙ not-true _ (c .if1 .taken)))
-
-add-i : tie.Need-add-i Inv-loop μ-loop
-add-i c = search needs
-
-loop-less : tie.Need-loop-less Inv-loop μ-loop
-loop-less c = search needs
 
 loop-again : tie.Need-loop-again Inv-loop μ-loop
 loop-again c = omega (arith, run.run-goes nameByte (c .before .before .before .before .before .before .args .s .now) (c .before .before .before .before .loop .i) (omega arith) (sym (c .before .name-byte .ensures) ∙ not-false _ (c .if1 .left)))
@@ -42,15 +30,4 @@ returns-2 c = omega (arith, run.run-over nameByte (c .before .before .before .ar
 
 pub name-len-spec : {M : Type 1} → statement M
 name-len-spec =
-    tie.close
-    (tie.spec
-    Inv-loop
-    μ-loop
-    loop-holds
-    shared-slice-read-name-byte
-    name-byte-requires
-    returns
-    add-i
-    loop-less
-    loop-again
-    returns-2)
+    tie.close (tie.spec Inv-loop μ-loop loop-holds (λ c. search needs) (λ c κs. search needs) returns (λ c. search needs) (λ c. search needs) loop-again returns-2)

@@ -19,20 +19,8 @@ abbrev μ-loop : tie.MeasureT-loop
 loop-holds : tie.Need-loop-holds Inv-loop μ-loop
 loop-holds c = omega arith
 
-shared-slice-read-blank : tie.Need-shared-slice-read-blank Inv-loop μ-loop
-shared-slice-read-blank c = search needs
-
-blank-requires : tie.Need-blank-requires Inv-loop μ-loop
-blank-requires c κs = search needs
-
 returns : tie.Need-returns Inv-loop μ-loop
 returns c = omega (arith, run.run-stops wordByte (c .before .before .before .before .before .before .args .s .now) (c .before .before .before .before .loop .i) (omega arith) (ap not (sym (c .before .blank .ensures) ∙ c .if1 .taken)))
-
-add-i : tie.Need-add-i Inv-loop μ-loop
-add-i c = search needs
-
-loop-less : tie.Need-loop-less Inv-loop μ-loop
-loop-less c = search needs
 
 loop-again : tie.Need-loop-again Inv-loop μ-loop
 loop-again c = omega (arith, run.run-goes wordByte (c .before .before .before .before .before .before .args .s .now) (c .before .before .before .before .loop .i) (omega arith) (ap not (sym (c .before .blank .ensures) ∙ c .if1 .left)))
@@ -42,15 +30,4 @@ returns-2 c = omega (arith, run.run-over wordByte (c .before .before .before .ar
 
 pub word-len-spec : {M : Type 1} → statement M
 word-len-spec =
-    tie.close
-    (tie.spec
-    Inv-loop
-    μ-loop
-    loop-holds
-    shared-slice-read-blank
-    blank-requires
-    returns
-    add-i
-    loop-less
-    loop-again
-    returns-2)
+    tie.close (tie.spec Inv-loop μ-loop loop-holds (λ c. search needs) (λ c κs. search needs) returns (λ c. search needs) (λ c. search needs) loop-again returns-2)

@@ -21,17 +21,8 @@ abbrev μ-loop : tie.MeasureT-loop
 loop-holds : tie.Need-loop-holds Inv-loop μ-loop
 loop-holds c = omega arith
 
-shared-slice-read-if1 : tie.Need-shared-slice-read-if1 Inv-loop μ-loop
-shared-slice-read-if1 c = search needs
-
 returns : tie.Need-returns Inv-loop μ-loop
 returns c = omega (arith, runs.run-stops inName (c .before .before .before .before .args .names .now) (c .before .before .before .loop .i) (omega arith) (ap not (eq-eqb _ 44 (c .if1 .taken))))
-
-add-i : tie.Need-add-i Inv-loop μ-loop
-add-i c = search needs
-
-loop-less : tie.Need-loop-less Inv-loop μ-loop
-loop-less c = search needs
 
 loop-again : tie.Need-loop-again Inv-loop μ-loop
 loop-again c = omega (arith, runs.run-goes inName (c .before .before .before .before .args .names .now) (c .before .before .before .loop .i) (omega arith) (ap not (ne-eqb _ 44 (c .if1 .left))))
@@ -41,14 +32,4 @@ returns-2 c = omega (arith, runs.run-over inName (c .before .before .args .names
 
 pub first-len-spec : {M : Type 1} → statement M
 first-len-spec =
-    tie.close
-    (tie.spec
-    Inv-loop
-    μ-loop
-    loop-holds
-    shared-slice-read-if1
-    returns
-    add-i
-    loop-less
-    loop-again
-    returns-2)
+    tie.close (tie.spec Inv-loop μ-loop loop-holds (λ c. search needs) returns (λ c. search needs) (λ c. search needs) loop-again returns-2)
