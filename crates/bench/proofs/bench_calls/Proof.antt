@@ -6,18 +6,6 @@ use Rattle.bench.specs.Runs.{measured}
 use Rattle.bench.proofs.bench_calls.Statement.{statement}
 use Rattle.bench.proofs.bench_calls.Tie as tie
 
-prepare-requires : tie.Need-prepare-requires
-prepare-requires c κs = search needs
-
-round-of-requires : tie.Need-round-of-requires
-round-of-requires c κs = search needs
-
-repeat-requires : tie.Need-repeat-requires
-repeat-requires c κs = search needs
-
-same-length : tie.Need-same-length
-same-length c = search needs
-
 returns : tie.Need-returns
 unfolding measured
 returns c =
@@ -28,4 +16,4 @@ returns c =
 
 pub bench-calls-spec : {M : Type 1} → statement M
 bench-calls-spec =
-    tie.close (tie.spec prepare-requires round-of-requires repeat-requires same-length returns)
+    tie.close (tie.spec (λ c κs. search needs) (λ c κs. search needs) (λ c κs. search needs) (λ c. search needs) returns)

@@ -7,24 +7,6 @@ use Rattle.machine.specs.Range.{inRange}
 use Rattle.bench.proofs.bench_disconnect.Statement.{statement}
 use Rattle.bench.proofs.bench_disconnect.Tie as tie
 
-open-requires : tie.Need-open-requires
-open-requires c κs = search needs
-
-slice-aggregate-connect : tie.Need-slice-aggregate-connect
-slice-aggregate-connect c = search needs
-
-connect-requires : tie.Need-connect-requires
-connect-requires c κs = search needs
-
-disconnect-requires : tie.Need-disconnect-requires
-disconnect-requires c κs = search needs
-
-judged-requires : tie.Need-judged-requires
-judged-requires c κs = search needs
-
-same-length : tie.Need-same-length
-same-length c = search needs
-
 returns : tie.Need-returns
 returns c =
     let e = c .before .before .before .before .before .before .before .before .before .before .«open» .ensures in
@@ -34,12 +16,4 @@ returns c =
 
 pub bench-disconnect-spec : {M : Type 1} → statement M
 bench-disconnect-spec =
-    tie.close
-    (tie.spec
-    open-requires
-    slice-aggregate-connect
-    connect-requires
-    disconnect-requires
-    judged-requires
-    same-length
-    returns)
+    tie.close (tie.spec (λ c κs. search needs) (λ c. search needs) (λ c κs. search needs) (λ c κs. search needs) (λ c κs. search needs) (λ c. search needs) returns)

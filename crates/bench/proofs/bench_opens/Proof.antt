@@ -25,9 +25,6 @@ abbrev μ-loop : tie.MeasureT-loop
 loop-holds : tie.Need-loop-holds Inv-loop μ-loop
 loop-holds c = (omega arith, none-yet (opens (c .before .args .sheet .now)))
 
-open-requires : tie.Need-open-requires Inv-loop μ-loop
-open-requires c κs = search needs
-
 counted-requires : tie.Need-counted-requires Inv-loop μ-loop
 counted-requires c κs =
     let l = c .before .before .before in
@@ -51,14 +48,4 @@ returns c =
 
 pub bench-opens-spec : {M : Type 1} → statement M
 bench-opens-spec =
-    tie.close
-    (tie.spec
-    Inv-loop
-    μ-loop
-    loop-holds
-    open-requires
-    counted-requires
-    add-k
-    loop-less
-    loop-again
-    returns)
+    tie.close (tie.spec Inv-loop μ-loop loop-holds (λ c κs. search needs) counted-requires add-k loop-less loop-again returns)

@@ -8,18 +8,6 @@ use Rattle.bench.specs.Runs.{roundAction}
 use Rattle.bench.proofs.bench_reading.Statement.{statement}
 use Rattle.bench.proofs.bench_reading.Tie as tie
 
-open-requires : tie.Need-open-requires
-open-requires c κs = search needs
-
-reading-requires : tie.Need-reading-requires
-reading-requires c κs = search needs
-
-judged-requires : tie.Need-judged-requires
-judged-requires c κs = search needs
-
-same-length : tie.Need-same-length
-same-length c = search needs
-
 returns : tie.Need-returns
 unfolding roundAction
 returns c =
@@ -29,4 +17,4 @@ returns c =
 
 pub bench-reading-spec : {M : Type 1} → statement M
 bench-reading-spec =
-    tie.close (tie.spec open-requires reading-requires judged-requires same-length returns)
+    tie.close (tie.spec (λ c κs. search needs) (λ c κs. search needs) (λ c κs. search needs) (λ c. search needs) returns)

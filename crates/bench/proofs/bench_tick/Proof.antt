@@ -7,18 +7,6 @@ use Rattle.machine.specs.Range.{inRange}
 use Rattle.bench.proofs.bench_tick.Statement.{statement}
 use Rattle.bench.proofs.bench_tick.Tie as tie
 
-open-requires : tie.Need-open-requires
-open-requires c κs = search needs
-
-tick-requires : tie.Need-tick-requires
-tick-requires c κs = search needs
-
-judged-requires : tie.Need-judged-requires
-judged-requires c κs = search needs
-
-same-length : tie.Need-same-length
-same-length c = search needs
-
 returns : tie.Need-returns
 returns c =
     let e = c .before .before .before .before .before .«open» .ensures in
@@ -27,4 +15,4 @@ returns c =
 
 pub bench-tick-spec : {M : Type 1} → statement M
 bench-tick-spec =
-    tie.close (tie.spec open-requires tick-requires judged-requires same-length returns)
+    tie.close (tie.spec (λ c κs. search needs) (λ c κs. search needs) (λ c κs. search needs) (λ c. search needs) returns)

@@ -6,18 +6,6 @@ use Rattle.bench.specs.Runs.{prepared}
 use Rattle.bench.proofs.prepare.Statement.{statement}
 use Rattle.bench.proofs.prepare.Tie as tie
 
-open-requires : tie.Need-open-requires
-open-requires c κs = search needs
-
-mul-repeat : tie.Need-mul-repeat
-mul-repeat c = search needs
-
-repeat-requires : tie.Need-repeat-requires
-repeat-requires c κs = search needs
-
-same-length : tie.Need-same-length
-same-length c = search needs
-
 returns : tie.Need-returns
 unfolding prepared
 returns c =
@@ -26,4 +14,4 @@ returns c =
     (ap (λ (x : Repeated). x .state) (rw o at (r .0)), rw o at (r .1))
 
 pub prepare-spec : {M : Type 1} → statement M
-prepare-spec = tie.close (tie.spec open-requires mul-repeat repeat-requires same-length returns)
+prepare-spec = tie.close (tie.spec (λ c κs. search needs) (λ c. search needs) (λ c κs. search needs) (λ c. search needs) returns)

@@ -19,9 +19,6 @@ abbrev μ-loop : tie.MeasureT-loop
 loop-holds : tie.Need-loop-holds Inv-loop μ-loop
 loop-holds c = (omega arith, omega arith, search needs, starts _ _ _)
 
-turn-requires : tie.Need-turn-requires Inv-loop μ-loop
-turn-requires c κs = search needs
-
 counted-requires : tie.Need-counted-requires Inv-loop μ-loop
 counted-requires c κs = omega arith
 
@@ -37,23 +34,9 @@ loop-again c =
     let t = c .before .before .before .before .before .before .turn in
     (omega arith, omega (arith, c .before .counted .ensures .1), search needs, goes-on _ (h .3) (t .ensures .0) (t .ensures .1) (c .before .counted .ensures .0))
 
-same-length : tie.Need-same-length Inv-loop μ-loop
-same-length c = search needs
-
 returns : tie.Need-returns Inv-loop μ-loop
 returns c = ends (omega arith) (c .before .loop .inv .3)
 
 pub repeat-spec : {M : Type 1} → statement M
 repeat-spec =
-    tie.close
-    (tie.spec
-    Inv-loop
-    μ-loop
-    loop-holds
-    turn-requires
-    counted-requires
-    add-k
-    loop-less
-    loop-again
-    same-length
-    returns)
+    tie.close (tie.spec Inv-loop μ-loop loop-holds (λ c κs. search needs) counted-requires add-k loop-less loop-again (λ c. search needs) returns)

@@ -8,19 +8,10 @@ use Rattle.machine.specs.State.{noClient}
 use Rattle.declining.proofs.is_connected.Statement.{statement}
 use Rattle.declining.proofs.is_connected.Tie as tie
 
-mul-k : tie.Need-mul-k
-mul-k c = search needs
-
-array-copy-out-k : tie.Need-array-copy-out-k
-array-copy-out-k c = search needs
-
-returns : tie.Need-returns
-returns c = search needs
-
 returns-2 : tie.Need-returns-2
 returns-2 c =
     let e : length (c .before .args .t1) ≡ 8 = search needs in
     sym (ap (λ (k : Client). k .connected) (List·getD-eq-default (c .before .args .t1) noClient (omega (arith, c .if1 .left))))
 
 pub is-connected-spec : {M : Type 1} → statement M
-is-connected-spec = tie.close (tie.spec mul-k array-copy-out-k returns returns-2)
+is-connected-spec = tie.close (tie.spec (λ c. search needs) (λ c. search needs) (λ c. search needs) returns-2)

@@ -5,9 +5,6 @@ use Rattle.machine.specs.Declined.{addressFits}
 use Rattle.device.proofs.address_row.Statement.{statement}
 use Rattle.device.proofs.address_row.Tie as tie
 
-text-fits-requires : tie.Need-text-fits-requires
-text-fits-requires c κs = search needs
-
 returns : tie.Need-returns
 unfolding addressFits
 returns c = rw (sym (c .before .text-fits .ensures) ∙ c .if1 .taken)
@@ -17,4 +14,4 @@ unfolding addressFits
 returns-2 c = rw (sym (c .before .text-fits .ensures) ∙ c .if1 .left)
 
 pub address-row-spec : {M : Type 1} → statement M
-address-row-spec = tie.close (tie.spec text-fits-requires returns returns-2)
+address-row-spec = tie.close (tie.spec (λ c κs. search needs) returns returns-2)

@@ -19,21 +19,6 @@ passes c =
     let a = c .before .before .before .before .before .before .before .before .args in
     connect-passes (a .state) (a .out .now) (c .before .before .before .before .is-connected .result) (a .client) (a .address .now) (c .before .in-range .ensures) (c .before .before .before .address-row .ensures) (c .before .before .client-rows .ensures) (c .rows .ensures)
 
-is-connected-requires : tie.Need-is-connected-requires
-is-connected-requires c κs = search needs
-
-address-row-requires : tie.Need-address-row-requires
-address-row-requires c κs = search needs
-
-client-rows-requires : tie.Need-client-rows-requires
-client-rows-requires c κs = search needs
-
-in-range-requires : tie.Need-in-range-requires
-in-range-requires c κs = search needs
-
-rows-requires : tie.Need-rows-requires
-rows-requires c κs = search needs
-
 greet-requires : tie.Need-greet-requires
 greet-requires c κs = λ z. passes (c .before) z .0
 
@@ -42,9 +27,6 @@ newcomer-requires c κs = λ z. passes (c .before .before .before .before) z .1
 
 with-client-requires : tie.Need-with-client-requires
 with-client-requires c κs = λ z. passes (c .before .before .before .before .before) z .0
-
-same-length : tie.Need-same-length
-same-length c = search needs
 
 returns : tie.Need-returns
 unfolding actionDeclined refusal perform
@@ -60,15 +42,4 @@ returns c =
 
 pub connect-spec : {M : Type 1} → statement M
 connect-spec =
-    tie.close
-    (tie.spec
-    is-connected-requires
-    address-row-requires
-    client-rows-requires
-    in-range-requires
-    rows-requires
-    greet-requires
-    newcomer-requires
-    with-client-requires
-    same-length
-    returns)
+    tie.close (tie.spec (λ c κs. search needs) (λ c κs. search needs) (λ c κs. search needs) (λ c κs. search needs) (λ c κs. search needs) greet-requires newcomer-requires with-client-requires (λ c. search needs) returns)

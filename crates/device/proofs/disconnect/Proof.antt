@@ -13,21 +13,6 @@ use Rattle.device.proofs.RowLaws.{client-same}
 use Rattle.device.proofs.disconnect.Statement.{statement}
 use Rattle.device.proofs.disconnect.Tie as tie
 
-is-connected-requires : tie.Need-is-connected-requires
-is-connected-requires c κs = search needs
-
-client-rows-requires : tie.Need-client-rows-requires
-client-rows-requires c κs = search needs
-
-in-range-requires : tie.Need-in-range-requires
-in-range-requires c κs = search needs
-
-rows-requires : tie.Need-rows-requires
-rows-requires c κs = search needs
-
-blank-client-requires : tie.Need-blank-client-requires
-blank-client-requires c κs = search needs
-
 with-client-requires : tie.Need-with-client-requires
 with-client-requires c κs =
     let a = c .before .before .before .before .before .before .before .args in
@@ -45,12 +30,4 @@ returns c =
 
 pub disconnect-spec : {M : Type 1} → statement M
 disconnect-spec =
-    tie.close
-    (tie.spec
-    is-connected-requires
-    client-rows-requires
-    in-range-requires
-    rows-requires
-    blank-client-requires
-    with-client-requires
-    returns)
+    tie.close (tie.spec (λ c κs. search needs) (λ c κs. search needs) (λ c κs. search needs) (λ c κs. search needs) (λ c κs. search needs) with-client-requires returns)

@@ -4,12 +4,6 @@ use Rattle.machine.specs.Declined.{entryFits}
 use Rattle.device.proofs.entry_row.Statement.{statement}
 use Rattle.device.proofs.entry_row.Tie as tie
 
-text-fits-requires : tie.Need-text-fits-requires
-text-fits-requires c κs = search needs
-
-text-fits-requires-2 : tie.Need-text-fits-requires-2
-text-fits-requires-2 c κs = search needs
-
 returns : tie.Need-returns
 unfolding entryFits
 returns c = rw (rw (c .before .before .text-fits .ensures, c .before .text-fits2 .ensures) at (c .if1 .taken))
@@ -19,4 +13,4 @@ unfolding entryFits
 returns-2 c = rw (rw (c .before .before .text-fits .ensures, c .before .text-fits2 .ensures) at (c .if1 .left))
 
 pub entry-row-spec : {M : Type 1} → statement M
-entry-row-spec = tie.close (tie.spec text-fits-requires text-fits-requires-2 returns returns-2)
+entry-row-spec = tie.close (tie.spec (λ c κs. search needs) (λ c κs. search needs) returns returns-2)

@@ -16,21 +16,6 @@ returns c = rw (ne-eqb _ _ (c .if1 .taken)) none-sent
 cast-deliver-versions : tie.Need-cast-deliver-versions
 cast-deliver-versions c = omega (arith, c .before .before .before .before .before .before .pre (c .before .before .before .if1 .left))
 
-slice-aggregate-deliver-versions : tie.Need-slice-aggregate-deliver-versions
-slice-aggregate-deliver-versions c = search needs
-
-deliver-versions-requires : tie.Need-deliver-versions-requires
-deliver-versions-requires c κs = search needs
-
-slice-aggregate-inform-others : tie.Need-slice-aggregate-inform-others
-slice-aggregate-inform-others c = search needs
-
-inform-others-requires : tie.Need-inform-others-requires
-inform-others-requires c κs = search needs
-
-same-length : tie.Need-same-length
-same-length c = search needs
-
 returns-2 : tie.Need-returns-2
 unfolding connectSends
 returns-2 c =
@@ -41,13 +26,4 @@ returns-2 c =
 
 pub greet-spec : {M : Type 1} → statement M
 greet-spec =
-    tie.close
-    (tie.spec
-    returns
-    cast-deliver-versions
-    slice-aggregate-deliver-versions
-    deliver-versions-requires
-    slice-aggregate-inform-others
-    inform-others-requires
-    same-length
-    returns-2)
+    tie.close (tie.spec returns cast-deliver-versions (λ c. search needs) (λ c κs. search needs) (λ c. search needs) (λ c κs. search needs) (λ c. search needs) returns-2)

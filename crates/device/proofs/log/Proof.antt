@@ -10,21 +10,6 @@ use Rattle.device.proofs.ExitLaws.{one-exit, by-both}
 use Rattle.device.proofs.log.Statement.{statement}
 use Rattle.device.proofs.log.Tie as tie
 
-entry-row-requires : tie.Need-entry-row-requires
-entry-row-requires c κs = search needs
-
-in-range-requires : tie.Need-in-range-requires
-in-range-requires c κs = search needs
-
-rows-requires : tie.Need-rows-requires
-rows-requires c κs = search needs
-
-put-entry-requires : tie.Need-put-entry-requires
-put-entry-requires c κs = search needs
-
-same-length : tie.Need-same-length
-same-length c = search needs
-
 returns : tie.Need-returns
 unfolding actionDeclined refusal perform entries
 returns c =
@@ -37,11 +22,4 @@ returns c =
 
 pub log-spec : {M : Type 1} → statement M
 log-spec =
-    tie.close
-    (tie.spec
-    entry-row-requires
-    in-range-requires
-    rows-requires
-    put-entry-requires
-    same-length
-    returns)
+    tie.close (tie.spec (λ c κs. search needs) (λ c κs. search needs) (λ c κs. search needs) (λ c κs. search needs) (λ c. search needs) returns)

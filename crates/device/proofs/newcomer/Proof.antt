@@ -6,17 +6,8 @@ use Rattle.layout.proofs.TakenLaws.{pads}
 use Rattle.device.proofs.newcomer.Statement.{statement}
 use Rattle.device.proofs.newcomer.Tie as tie
 
-blank-client-requires : tie.Need-blank-client-requires
-blank-client-requires c κs = search needs
-
 returns : tie.Need-returns
 returns c = rw (ne-eqb _ _ (c .before .if1 .taken)) (c .blank-client .ensures)
-
-slice-aggregate-put-bytes : tie.Need-slice-aggregate-put-bytes
-slice-aggregate-put-bytes c = search needs
-
-put-bytes-requires : tie.Need-put-bytes-requires
-put-bytes-requires c κs = search needs
 
 cast-t9 : tie.Need-cast-t9
 cast-t9 c = let h = c .before .before .before .before .before .pre (c .before .before .before .if1 .left) in search needs
@@ -26,11 +17,4 @@ returns-2 c = let h = c .before .before .before .before .before .pre (c .before 
 
 pub newcomer-spec : {M : Type 1} → statement M
 newcomer-spec =
-    tie.close
-    (tie.spec
-    blank-client-requires
-    returns
-    slice-aggregate-put-bytes
-    put-bytes-requires
-    cast-t9
-    returns-2)
+    tie.close (tie.spec (λ c κs. search needs) returns (λ c. search needs) (λ c κs. search needs) cast-t9 returns-2)

@@ -4,12 +4,6 @@ use Rattle.message.proofs.DeliveryLaws.{none-sent}
 use Rattle.device.proofs.put_entry.Statement.{statement}
 use Rattle.device.proofs.put_entry.Tie as tie
 
-entry-to-all-requires : tie.Need-entry-to-all-requires
-entry-to-all-requires c κs = search needs
-
-same-length : tie.Need-same-length
-same-length c = search needs
-
 returns : tie.Need-returns
 returns c = rw (c .before .before .before .before .if1 .taken) (c .before .before .entry-to-all .ensures)
 
@@ -17,4 +11,4 @@ returns-2 : tie.Need-returns-2
 returns-2 c = rw (c .if1 .left) none-sent
 
 pub put-entry-spec : {M : Type 1} → statement M
-put-entry-spec = tie.close (tie.spec entry-to-all-requires same-length returns returns-2)
+put-entry-spec = tie.close (tie.spec (λ c κs. search needs) (λ c. search needs) returns returns-2)

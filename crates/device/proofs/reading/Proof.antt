@@ -11,36 +11,6 @@ use Rattle.device.proofs.ReadingLaws.{reading-number, reading-taken}
 use Rattle.device.proofs.reading.Statement.{statement}
 use Rattle.device.proofs.reading.Tie as tie
 
-sensor-row-requires : tie.Need-sensor-row-requires
-sensor-row-requires c κs = search needs
-
-in-range-requires : tie.Need-in-range-requires
-in-range-requires c κs = search needs
-
-rows-requires : tie.Need-rows-requires
-rows-requires c κs = search needs
-
-mul-listed : tie.Need-mul-listed
-mul-listed c = search needs
-
-element-copy-out-listed : tie.Need-element-copy-out-listed
-element-copy-out-listed c = search needs
-
-sample-of-requires : tie.Need-sample-of-requires
-sample-of-requires c κs = search needs
-
-sample-row-requires : tie.Need-sample-row-requires
-sample-row-requires c κs = search needs
-
-with-reading-requires : tie.Need-with-reading-requires
-with-reading-requires c κs = search needs
-
-visit-requires : tie.Need-visit-requires
-visit-requires c κs = search needs
-
-same-length : tie.Need-same-length
-same-length c = search needs
-
 returns : tie.Need-returns
 unfolding refusal
 returns c =
@@ -58,16 +28,4 @@ returns c =
 
 pub reading-spec : {M : Type 1} → statement M
 reading-spec =
-    tie.close
-    (tie.spec
-    sensor-row-requires
-    in-range-requires
-    rows-requires
-    mul-listed
-    element-copy-out-listed
-    sample-of-requires
-    sample-row-requires
-    with-reading-requires
-    visit-requires
-    same-length
-    returns)
+    tie.close (tie.spec (λ c κs. search needs) (λ c κs. search needs) (λ c κs. search needs) (λ c. search needs) (λ c. search needs) (λ c κs. search needs) (λ c κs. search needs) (λ c κs. search needs) (λ c κs. search needs) (λ c. search needs) returns)

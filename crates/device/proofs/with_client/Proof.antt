@@ -5,15 +5,9 @@ use Rattle.device.proofs.ExitLaws.{placed}
 use Rattle.device.proofs.with_client.Statement.{statement}
 use Rattle.device.proofs.with_client.Tie as tie
 
-with-newcomer-requires : tie.Need-with-newcomer-requires
-with-newcomer-requires c κs = search needs
-
-without-client-requires : tie.Need-without-client-requires
-without-client-requires c κs = search needs
-
 returns : tie.Need-returns
 unfolding withClient
 returns c = rw (c .before .with-newcomer .ensures, c .without-client .ensures, placed)
 
 pub with-client-spec : {M : Type 1} → statement M
-with-client-spec = tie.close (tie.spec with-newcomer-requires without-client-requires returns)
+with-client-spec = tie.close (tie.spec (λ c κs. search needs) (λ c κs. search needs) returns)

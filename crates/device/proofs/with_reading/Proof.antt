@@ -4,18 +4,6 @@ use borrow.Author.Tests.{ne-eqb}
 use Rattle.device.proofs.with_reading.Statement.{statement}
 use Rattle.device.proofs.with_reading.Tie as tie
 
-enum-known-sampled : tie.Need-enum-known-sampled
-enum-known-sampled c = search needs
-
-mul-next : tie.Need-mul-next
-mul-next c = search needs
-
-array-set-from-next : tie.Need-array-set-from-next
-array-set-from-next c = search needs
-
-enum-told : tie.Need-enum-told
-enum-told c = search needs
-
 returns : tie.Need-returns
 returns c = rw (c .before .before .before .if1 .taken, c .before .sampled .given .1)
 
@@ -27,12 +15,4 @@ returns-3 c = rw (ne-eqb _ _ (c .if1 .left))
 
 pub with-reading-spec : {M : Type 1} → statement M
 with-reading-spec =
-    tie.close
-    (tie.spec
-    enum-known-sampled
-    mul-next
-    array-set-from-next
-    enum-told
-    returns
-    returns-2
-    returns-3)
+    tie.close (tie.spec (λ c. search needs) (λ c. search needs) (λ c. search needs) (λ c. search needs) returns returns-2 returns-3)

@@ -14,14 +14,8 @@ Inv-loop number client most pairs j₀ left j = (j ≤ most) × (left ≡ tabula
 abbrev μ-loop : tie.MeasureT-loop
 μ-loop number client most pairs j₀ left j = most - j
 
-cleared-requires : tie.Need-cleared-requires Inv-loop μ-loop
-cleared-requires c κs = search needs
-
 loop-holds : tie.Need-loop-holds Inv-loop μ-loop
 loop-holds c = (omega arith, cleared-none (c .before .args .pairs) (c .before .args .client) (search needs))
-
-no-subscription-requires : tie.Need-no-subscription-requires Inv-loop μ-loop
-no-subscription-requires c κs = search needs
 
 -- in a turn the number is 0, so that the client is one of the eight, and j one of its places
 turn : (c : tie.After-no-subscription Inv-loop μ-loop) → (c .before .before .before .before .args .client < 8) × (c .before .before .loop .j < 32)
@@ -41,12 +35,6 @@ mul-left-2 c = let h = turn c in search needs
 array-set-from-left : tie.Need-array-set-from-left Inv-loop μ-loop
 array-set-from-left c = let h = turn c in search needs
 
-add-j : tie.Need-add-j Inv-loop μ-loop
-add-j c = search needs
-
-loop-less : tie.Need-loop-less Inv-loop μ-loop
-loop-less c = search needs
-
 loop-again : tie.Need-loop-again Inv-loop μ-loop
 loop-again c =
     let h = turn c in (
@@ -62,18 +50,4 @@ returns c =
 
 pub without-client-spec : {M : Type 1} → statement M
 without-client-spec =
-    tie.close
-    (tie.spec
-    Inv-loop
-    μ-loop
-    cleared-requires
-    loop-holds
-    no-subscription-requires
-    mul-left
-    add-left
-    mul-left-2
-    array-set-from-left
-    add-j
-    loop-less
-    loop-again
-    returns)
+    tie.close (tie.spec Inv-loop μ-loop (λ c κs. search needs) loop-holds (λ c κs. search needs) mul-left add-left mul-left-2 array-set-from-left (λ c. search needs) (λ c. search needs) loop-again returns)

@@ -24,9 +24,6 @@ loop-holds c = (omega arith, refl)
 shared-slice-read-is-hex : tie.Need-shared-slice-read-is-hex Inv-loop μ-loop
 shared-slice-read-is-hex c = omega arith
 
-is-hex-requires : tie.Need-is-hex-requires Inv-loop μ-loop
-is-hex-requires c κs = search needs
-
 add-i : tie.Need-add-i Inv-loop μ-loop
 add-i c = omega arith
 
@@ -47,14 +44,4 @@ returns c =
 
 pub all-hex-spec : {M : Type 1} → statement M
 all-hex-spec =
-    tie.close
-    (tie.spec
-    Inv-loop
-    μ-loop
-    loop-holds
-    shared-slice-read-is-hex
-    is-hex-requires
-    add-i
-    loop-less
-    loop-again
-    returns)
+    tie.close (tie.spec Inv-loop μ-loop loop-holds shared-slice-read-is-hex (λ c κs. search needs) add-i loop-less loop-again returns)

@@ -7,23 +7,14 @@ use Rattle.output.proofs.TextLaws.{digit-range}
 use Rattle.hex.proofs.hex_value.Statement.{statement}
 use Rattle.hex.proofs.hex_value.Tie as tie
 
-is-digit-requires : tie.Need-is-digit-requires
-is-digit-requires c κs = search needs
-
 sub-result : tie.Need-sub-result
 sub-result c = omega (arith, digit-range (c .before .before .args .b) (sym (c .before .is-digit .ensures) ∙ c .if1 .taken))
 
 returns : tie.Need-returns
 returns c = H.of-digit _ (sym (c .before .is-digit .ensures) ∙ c .if1 .taken)
 
-is-hex-letter-requires : tie.Need-is-hex-letter-requires
-is-hex-letter-requires c κs = search needs
-
 sub-result-2 : tie.Need-sub-result-2
 sub-result-2 c = omega (arith, H.letter-range (c .before .before .before .before .args .b) (sym (c .before .is-hex-letter .ensures) ∙ c .if2 .taken))
-
-add-result : tie.Need-add-result
-add-result c = search needs
 
 returns-2 : tie.Need-returns-2
 returns-2 c = H.of-letter _ (sym (c .before .before .before .is-digit .ensures) ∙ c .before .before .if1 .left) (sym (c .before .is-hex-letter .ensures) ∙ c .if2 .taken)
@@ -33,13 +24,4 @@ returns-3 c = H.of-none _ (sym (c .before .before .before .is-digit .ensures) �
 
 pub hex-value-spec : {M : Type 1} → statement M
 hex-value-spec =
-    tie.close
-    (tie.spec
-    is-digit-requires
-    sub-result
-    returns
-    is-hex-letter-requires
-    sub-result-2
-    add-result
-    returns-2
-    returns-3)
+    tie.close (tie.spec (λ c κs. search needs) sub-result returns (λ c κs. search needs) sub-result-2 (λ c. search needs) returns-2 returns-3)

@@ -24,9 +24,6 @@ mul-n c = omega (arith, H.below-15 (c .before .loop .n) (c .before .loop .i) (c 
 shared-slice-read-hex-value : tie.Need-shared-slice-read-hex-value Inv-loop μ-loop
 shared-slice-read-hex-value c = omega arith
 
-hex-value-requires : tie.Need-hex-value-requires Inv-loop μ-loop
-hex-value-requires c κs = search needs
-
 cast-n : tie.Need-cast-n Inv-loop μ-loop
 cast-n c = omega arith
 
@@ -50,17 +47,4 @@ returns c = sym (H.number-end (c .before .before .before .args .t .now) (c .befo
 
 pub number-of-spec : {M : Type 1} → statement M
 number-of-spec =
-    tie.close
-    (tie.spec
-    Inv-loop
-    μ-loop
-    loop-holds
-    mul-n
-    shared-slice-read-hex-value
-    hex-value-requires
-    cast-n
-    add-n
-    add-i
-    loop-less
-    loop-again
-    returns)
+    tie.close (tie.spec Inv-loop μ-loop loop-holds mul-n shared-slice-read-hex-value (λ c κs. search needs) cast-n add-n add-i loop-less loop-again returns)

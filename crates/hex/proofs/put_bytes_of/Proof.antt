@@ -32,12 +32,6 @@ add-byte-of c = omega arith
 shared-slice-read-byte-of-2 : tie.Need-shared-slice-read-byte-of-2 Inv-loop μ-loop
 shared-slice-read-byte-of-2 c = omega arith
 
-byte-of-requires : tie.Need-byte-of-requires Inv-loop μ-loop
-byte-of-requires c κs = search needs
-
-put-byte-requires : tie.Need-put-byte-requires Inv-loop μ-loop
-put-byte-requires c κs = search needs
-
 add-i : tie.Need-add-i Inv-loop μ-loop
 add-i c = omega arith
 
@@ -58,19 +52,4 @@ returns c = R.all-written (c .before .loop .inv .1) (H.bytes-end (c .before .bef
 
 pub put-bytes-of-spec : {M : Type 1} → statement M
 put-bytes-of-spec =
-    tie.close
-    (tie.spec
-    Inv-loop
-    μ-loop
-    loop-holds
-    add-loop
-    shared-slice-read-byte-of
-    add-byte-of
-    shared-slice-read-byte-of-2
-    byte-of-requires
-    put-byte-requires
-    add-i
-    loop-less
-    loop-again
-    same-length
-    returns)
+    tie.close (tie.spec Inv-loop μ-loop loop-holds add-loop shared-slice-read-byte-of add-byte-of shared-slice-read-byte-of-2 (λ c κs. search needs) (λ c κs. search needs) add-i loop-less loop-again same-length returns)

@@ -26,14 +26,8 @@ shared-slice-read-b c = omega arith
 hex-digit-requires : tie.Need-hex-digit-requires Inv-loop μ-loop
 hex-digit-requires c κs = omega (arith, c .before .shared-slice-known2 .given (c .before .before .before .loop .i))
 
-put-byte-requires : tie.Need-put-byte-requires Inv-loop μ-loop
-put-byte-requires c κs = search needs
-
 hex-digit-requires-2 : tie.Need-hex-digit-requires-2 Inv-loop μ-loop
 hex-digit-requires-2 c κs = omega arith
-
-put-byte-requires-2 : tie.Need-put-byte-requires-2 Inv-loop μ-loop
-put-byte-requires-2 c κs = search needs
 
 add-i : tie.Need-add-i Inv-loop μ-loop
 add-i c = omega arith
@@ -55,18 +49,4 @@ returns c = R.all-written (c .before .loop .inv .1) (H.hexed-end (c .before .bef
 
 pub put-hexed-spec : {M : Type 1} → statement M
 put-hexed-spec =
-    tie.close
-    (tie.spec
-    Inv-loop
-    μ-loop
-    loop-holds
-    shared-slice-read-b
-    hex-digit-requires
-    put-byte-requires
-    hex-digit-requires-2
-    put-byte-requires-2
-    add-i
-    loop-less
-    loop-again
-    same-length
-    returns)
+    tie.close (tie.spec Inv-loop μ-loop loop-holds shared-slice-read-b hex-digit-requires (λ c κs. search needs) hex-digit-requires-2 (λ c κs. search needs) add-i loop-less loop-again same-length returns)

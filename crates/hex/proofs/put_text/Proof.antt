@@ -7,24 +7,9 @@ use Rattle.hex.specs.Hex.{hexText}
 use Rattle.hex.proofs.put_text.Statement.{statement}
 use Rattle.hex.proofs.put_text.Tie as tie
 
-slice-aggregate-put-bytes : tie.Need-slice-aggregate-put-bytes
-slice-aggregate-put-bytes c = search needs
-
-put-bytes-requires : tie.Need-put-bytes-requires
-put-bytes-requires c κs = search needs
-
-same-length : tie.Need-same-length
-same-length c = search needs
-
 returns : tie.Need-returns
 unfolding hexText
 returns c = O.said (c .before .before .put-bytes .ensures) (rw (eq-eqb (length (c .before .before .before .before .before .before .before .before .args .bytes .now)) 0 (c .before .before .before .before .before .if1 .taken)))
-
-put-hexed-requires : tie.Need-put-hexed-requires
-put-hexed-requires c κs = search needs
-
-same-length-2 : tie.Need-same-length-2
-same-length-2 c = search needs
 
 returns-2 : tie.Need-returns-2
 unfolding hexText
@@ -32,12 +17,4 @@ returns-2 c = O.said (c .before .before .put-hexed .ensures) (rw (ne-eqb (length
 
 pub put-text-spec : {M : Type 1} → statement M
 put-text-spec =
-    tie.close
-    (tie.spec
-    slice-aggregate-put-bytes
-    put-bytes-requires
-    same-length
-    returns
-    put-hexed-requires
-    same-length-2
-    returns-2)
+    tie.close (tie.spec (λ c. search needs) (λ c κs. search needs) (λ c. search needs) returns (λ c κs. search needs) (λ c. search needs) returns-2)

@@ -12,15 +12,9 @@ returns : tie.Need-returns
 unfolding bitsOf
 returns c = rw (ne-eqb (length (c .before .before .args .t .now)) 16 (c .if1 .taken))
 
-all-hex-requires : tie.Need-all-hex-requires
-all-hex-requires c κs = search needs
-
 returns-2 : tie.Need-returns-2
 unfolding bitsOf
 returns-2 c = rw (eq-eqb (length (c .before .before .before .before .args .t .now)) 16 (c .before .before .if1 .left), sym (c .before .all-hex .ensures) ∙ not-true _ (c .if2 .taken))
-
-number-of-requires : tie.Need-number-of-requires
-number-of-requires c κs = search needs
 
 returns-3 : tie.Need-returns-3
 unfolding bitsOf
@@ -28,4 +22,4 @@ returns-3 c = rw (eq-eqb (length (c .before .before .before .before .before .arg
 
 pub read-bits-spec : {M : Type 1} → statement M
 read-bits-spec =
-    tie.close (tie.spec returns all-hex-requires returns-2 number-of-requires returns-3)
+    tie.close (tie.spec returns (λ c κs. search needs) returns-2 (λ c κs. search needs) returns-3)

@@ -21,24 +21,6 @@ abbrev μ-loop : tie.MeasureT-loop
 loop-holds : tie.Need-loop-holds Inv-loop μ-loop
 loop-holds c = serving _ _ _
 
-mul-client : tie.Need-mul-client Inv-loop μ-loop
-mul-client c = search needs
-
-array-copy-out-client : tie.Need-array-copy-out-client Inv-loop μ-loop
-array-copy-out-client c = search needs
-
-cast-entry-if : tie.Need-cast-entry-if Inv-loop μ-loop
-cast-entry-if c = search needs
-
-entry-if-requires : tie.Need-entry-if-requires Inv-loop μ-loop
-entry-if-requires c κs = search needs
-
-add-c : tie.Need-add-c Inv-loop μ-loop
-add-c c = search needs
-
-loop-less : tie.Need-loop-less Inv-loop μ-loop
-loop-less c = search needs
-
 loop-again : tie.Need-loop-again Inv-loop μ-loop
 loop-again c = serving-on (c .before .before .before .before .before .before .loop .inv) (omega arith) (c .before .before .entry-if .ensures)
 
@@ -50,17 +32,4 @@ returns c = served (c .before .loop .inv) (omega arith)
 
 pub entry-to-all-spec : {M : Type 1} → statement M
 entry-to-all-spec =
-    tie.close
-    (tie.spec
-    Inv-loop
-    μ-loop
-    loop-holds
-    mul-client
-    array-copy-out-client
-    cast-entry-if
-    entry-if-requires
-    add-c
-    loop-less
-    loop-again
-    same-length
-    returns)
+    tie.close (tie.spec Inv-loop μ-loop loop-holds (λ c. search needs) (λ c. search needs) (λ c. search needs) (λ c κs. search needs) (λ c. search needs) (λ c. search needs) loop-again same-length returns)

@@ -7,18 +7,6 @@ use Rattle.input.proofs.SpaceLaws as space
 use Rattle.input.proofs.behind_space.Statement.{statement}
 use Rattle.input.proofs.behind_space.Tie as tie
 
-len-before-requires : tie.Need-len-before-requires
-len-before-requires c κs = search needs
-
-sub-result : tie.Need-sub-result
-sub-result c = search needs
-
-part-result-start : tie.Need-part-result-start
-part-result-start c = search needs
-
-part-result-end : tie.Need-part-result-end
-part-result-end c = search needs
-
 returns : tie.Need-returns
 returns c = space.behind-none 32 (c .before .before .before .before .args .s .now) (c .before .before .len-before .result) (c .before .before .len-before .ensures) (c .before .if1 .taken)
 
@@ -34,23 +22,9 @@ sub-result-2 c = omega (arith, within c)
 part-result-start-2 : tie.Need-part-result-start-2
 part-result-start-2 c = omega (arith, within c)
 
-part-result-end-2 : tie.Need-part-result-end-2
-part-result-end-2 c = search needs
-
 returns-2 : tie.Need-returns-2
 returns-2 c = space.behind-some 32 (c .before .before .before .before .args .s .now) (c .before .before .len-before .result) (c .before .before .len-before .ensures)
 
 pub behind-space-spec : {M : Type 1} → statement M
 behind-space-spec =
-    tie.close
-    (tie.spec
-    len-before-requires
-    sub-result
-    part-result-start
-    part-result-end
-    returns
-    add-after
-    sub-result-2
-    part-result-start-2
-    part-result-end-2
-    returns-2)
+    tie.close (tie.spec (λ c κs. search needs) (λ c. search needs) (λ c. search needs) (λ c. search needs) returns add-after sub-result-2 part-result-start-2 (λ c. search needs) returns-2)

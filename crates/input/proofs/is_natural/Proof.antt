@@ -4,14 +4,8 @@ use Rattle.input.proofs.NumberLaws as number
 use Rattle.input.proofs.is_natural.Statement.{statement}
 use Rattle.input.proofs.is_natural.Tie as tie
 
-whole-ok-requires : tie.Need-whole-ok-requires
-whole-ok-requires c κs = search needs
-
-digits-len-requires : tie.Need-digits-len-requires
-digits-len-requires c κs = search needs
-
 returns : tie.Need-returns
 returns c = number.natural-is (c .before .before .before .args .t .now) (c .before .whole-ok .result) (c .digits-len .result) (c .before .whole-ok .ensures) (c .digits-len .ensures)
 
 pub is-natural-spec : {M : Type 1} → statement M
-is-natural-spec = tie.close (tie.spec whole-ok-requires digits-len-requires returns)
+is-natural-spec = tie.close (tie.spec (λ c κs. search needs) (λ c κs. search needs) returns)

@@ -15,20 +15,11 @@ abbrev μ-loop : tie.MeasureT-loop
 loop-holds : tie.Need-loop-holds Inv-loop μ-loop
 loop-holds c = move.moved-none _ _ _ (c .pre)
 
-add-b : tie.Need-add-b Inv-loop μ-loop
-add-b c = search needs
-
 slice-read-b : tie.Need-slice-read-b Inv-loop μ-loop
 slice-read-b c = omega (arith, move.moved-length (c .before .before .loop .inv))
 
 slice-write-buf : tie.Need-slice-write-buf Inv-loop μ-loop
 slice-write-buf c = omega (arith, move.moved-length (c .before .before .loop .inv))
-
-add-i : tie.Need-add-i Inv-loop μ-loop
-add-i c = search needs
-
-loop-less : tie.Need-loop-less Inv-loop μ-loop
-loop-less c = search needs
 
 loop-again : tie.Need-loop-again Inv-loop μ-loop
 loop-again c = move.moved-more (c .before .before .loop .inv) (c .before .loop-test .taken)
@@ -41,16 +32,4 @@ returns c = move.moved-all (c .before .loop .inv) (c .loop-test .left)
 
 pub move-to-start-spec : {M : Type 1} → statement M
 move-to-start-spec =
-    tie.close
-    (tie.spec
-    Inv-loop
-    μ-loop
-    loop-holds
-    add-b
-    slice-read-b
-    slice-write-buf
-    add-i
-    loop-less
-    loop-again
-    same-length
-    returns)
+    tie.close (tie.spec Inv-loop μ-loop loop-holds (λ c. search needs) slice-read-b slice-write-buf (λ c. search needs) (λ c. search needs) loop-again same-length returns)

@@ -12,24 +12,6 @@ use Rattle.input.proofs.NumberLaws as number
 use Rattle.input.proofs.read_biased.Statement.{statement}
 use Rattle.input.proofs.read_biased.Tie as tie
 
-signed-value-requires : tie.Need-signed-value-requires
-signed-value-requires c κs = search needs
-
-slice-aggregate-put-integer : tie.Need-slice-aggregate-put-integer
-slice-aggregate-put-integer c = search needs
-
-put-integer-requires : tie.Need-put-integer-requires
-put-integer-requires c κs = search needs
-
-slice-aggregate-prefix : tie.Need-slice-aggregate-prefix
-slice-aggregate-prefix c = search needs
-
-prefix-requires : tie.Need-prefix-requires
-prefix-requires c κs = search needs
-
-same-requires : tie.Need-same-requires
-same-requires c κs = search needs
-
 read : (c : tie.After-same) (b : Bool) → b ≡ ltb (c .before .before .before .before .before .before .signed-value .result) (2 ^ 32) && c .same .result → cond b (Is (c .before .before .before .before .before .before .signed-value .result)) Bad ≡ numberOf (readInteger (c .before .before .before .before .before .before .before .before .args .t .now))
 read c b e =
     let w = c .before .before .before .before in
@@ -45,13 +27,4 @@ returns-2 c = read (c .before) false (sym (c .if1 .left))
 
 pub read-biased-spec : {M : Type 1} → statement M
 read-biased-spec =
-    tie.close
-    (tie.spec
-    signed-value-requires
-    slice-aggregate-put-integer
-    put-integer-requires
-    slice-aggregate-prefix
-    prefix-requires
-    same-requires
-    returns
-    returns-2)
+    tie.close (tie.spec (λ c κs. search needs) (λ c. search needs) (λ c κs. search needs) (λ c. search needs) (λ c κs. search needs) (λ c κs. search needs) returns returns-2)

@@ -10,24 +10,6 @@ use Rattle.input.proofs.NumberLaws as number
 use Rattle.input.proofs.read_decimal.Statement.{statement}
 use Rattle.input.proofs.read_decimal.Tie as tie
 
-digits-value-requires : tie.Need-digits-value-requires
-digits-value-requires c κs = search needs
-
-slice-aggregate-put-decimal : tie.Need-slice-aggregate-put-decimal
-slice-aggregate-put-decimal c = search needs
-
-put-decimal-requires : tie.Need-put-decimal-requires
-put-decimal-requires c κs = search needs
-
-slice-aggregate-prefix : tie.Need-slice-aggregate-prefix
-slice-aggregate-prefix c = search needs
-
-prefix-requires : tie.Need-prefix-requires
-prefix-requires c κs = search needs
-
-same-requires : tie.Need-same-requires
-same-requires c κs = search needs
-
 read : (c : tie.After-same) (b : Bool) → b ≡ c .same .result → cond b (Is (c .before .before .before .before .before .before .digits-value .result)) Bad ≡ numberOf (readDecimal (c .before .before .before .before .before .before .before .before .args .t .now))
 read c b e =
     let w = c .before .before .before .before in
@@ -43,13 +25,4 @@ returns-2 c = read (c .before) false (sym (c .if1 .left))
 
 pub read-decimal-spec : {M : Type 1} → statement M
 read-decimal-spec =
-    tie.close
-    (tie.spec
-    digits-value-requires
-    slice-aggregate-put-decimal
-    put-decimal-requires
-    slice-aggregate-prefix
-    prefix-requires
-    same-requires
-    returns
-    returns-2)
+    tie.close (tie.spec (λ c κs. search needs) (λ c. search needs) (λ c κs. search needs) (λ c. search needs) (λ c κs. search needs) (λ c κs. search needs) returns returns-2)

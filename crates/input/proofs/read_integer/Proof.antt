@@ -8,15 +8,6 @@ use Rattle.input.proofs.SignedLaws as signed
 use Rattle.input.proofs.read_integer.Statement.{statement}
 use Rattle.input.proofs.read_integer.Tie as tie
 
-read-biased-requires : tie.Need-read-biased-requires
-read-biased-requires c κs = search needs
-
-enum-known-v : tie.Need-enum-known-v
-enum-known-v c = search needs
-
-enum-told : tie.Need-enum-told
-enum-told c = search needs
-
 returns : tie.Need-returns
 returns c = signed.no-integer (readInteger (c .before .before .before .before .args .t .now)) (sym (c .enum-told .given .1) ∙ c .before .before .read-biased .ensures)
 
@@ -37,5 +28,4 @@ returns-2 c = signed.integer-is (c .before .before .before .before .before .args
 
 pub read-integer-spec : {M : Type 1} → statement M
 read-integer-spec =
-    tie.close
-    (tie.spec read-biased-requires enum-known-v enum-told returns cast-t4 sub-t5 cast-t6 returns-2)
+    tie.close (tie.spec (λ c κs. search needs) (λ c. search needs) (λ c. search needs) returns cast-t4 sub-t5 cast-t6 returns-2)

@@ -6,17 +6,8 @@ use Rattle.layout.proofs.TakenLaws.{byte-there, byte-past}
 use Rattle.layout.proofs.byte_at.Statement.{statement}
 use Rattle.layout.proofs.byte_at.Tie as tie
 
-shared-slice-read-t7 : tie.Need-shared-slice-read-t7
-shared-slice-read-t7 c = search needs
-
-add-t8 : tie.Need-add-t8
-add-t8 c = search needs
-
-returns : tie.Need-returns
-returns c = byte-there (now (c .before .before .args .s)) (c .before .before .args .c .at) (omega arith)
-
 returns-2 : tie.Need-returns-2
 returns-2 c = byte-past (now (c .before .args .s)) (c .before .args .c .at) (omega arith)
 
 pub byte-at-spec : {M : Type 1} → statement M
-byte-at-spec = tie.close (tie.spec shared-slice-read-t7 add-t8 returns returns-2)
+byte-at-spec = tie.close (tie.spec (λ c. search needs) (λ c. search needs) (λ c. search (byte-there, needs)) returns-2)

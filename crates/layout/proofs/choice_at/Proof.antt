@@ -10,58 +10,18 @@ use Rattle.layout.proofs.choice_at.Statement.{statement}
 use Rattle.layout.proofs.choice_at.Tie as tie
 
 span : (c : tie.After-known-told) → Spans (c .before .before .before .before .before .args .s .now) 16 (drop (c .before .before .before .before .before .args .c .at) (c .before .before .before .before .before .args .s .now)) (c .before .a .given .0 .0) (c .before .a .given .0 .1 .0)
-span c = spans (c .before .before .before .before .before .args .s .now) (c .before .a .given .1) (c .before .before .before .text-at .ensures)
-
-text-at-requires : tie.Need-text-at-requires
-text-at-requires c κs = search needs
-
-enum-known-a : tie.Need-enum-known-a
-enum-known-a c = search needs
-
-enum-told : tie.Need-enum-told
-enum-told c = search needs
-
-no-choice-requires : tie.Need-no-choice-requires
-no-choice-requires c κs = search needs
+span c = spans _ (c .before .a .given .1) (c .before .before .before .text-at .ensures)
 
 returns : tie.Need-returns
 unfolding choiceAt
-returns c = rw (c .no-choice .ensures, told (textOf (c .before .before .before .before .before .args .s .now)) (c .before .enum-told .given .1) (c .before .before .before .text-at .ensures .0))
-
-sub-padded-16 : tie.Need-sub-padded-16
-sub-padded-16 c = span c .starts
-
-part-padded-16-start : tie.Need-part-padded-16-start
-part-padded-16-start c = span c .starts
-
-part-padded-16-end : tie.Need-part-padded-16-end
-part-padded-16-end c = span c .ends
+returns c = rw (c .no-choice .ensures, told (textOf _) (c .before .enum-told .given .1) (c .before .before .before .text-at .ensures .0))
 
 padded-16-requires : tie.Need-padded-16-requires
 padded-16-requires c κs = omega (arith, span (c .before) .long, span (c .before) .room)
-
-sub-t8 : tie.Need-sub-t8
-sub-t8 c = span (c .before .before) .starts
-
-cast-t11 : tie.Need-cast-t11
-cast-t11 c = omega (arith, span (c .before .before) .room)
 
 returns-2 : tie.Need-returns-2
 returns-2 c = choice-there (span (c .before .before)) (c .padded-16 .ensures)
 
 pub choice-at-spec : {M : Type 1} → statement M
 choice-at-spec =
-    tie.close
-    (tie.spec
-    text-at-requires
-    enum-known-a
-    enum-told
-    no-choice-requires
-    returns
-    sub-padded-16
-    part-padded-16-start
-    part-padded-16-end
-    padded-16-requires
-    sub-t8
-    cast-t11
-    returns-2)
+    tie.close (tie.spec (λ c κs. search needs) (λ c. search needs) (λ c. search needs) (λ c κs. search needs) returns (λ c. span c .starts) (λ c. span c .starts) (λ c. span c .ends) padded-16-requires (λ c. span (c .before .before) .starts) (λ c. omega (arith, span (c .before .before) .room)) returns-2)

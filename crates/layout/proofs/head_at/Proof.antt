@@ -18,65 +18,17 @@ span2 c = spans (c .before .before .before .before .before .before .before .befo
 span3 : (c : tie.After-known-told3) → Spans (c .before .before .before .before .before .before .before .before .before .before .before .before .before .args .s .now) 8 (drop (c .before .before .before .before .before .d .given .0 .1 .0) (c .before .before .before .before .before .before .before .before .before .before .before .before .before .args .s .now)) (c .before .u .given .0 .0) (c .before .u .given .0 .1 .0)
 span3 c = spans (c .before .before .before .before .before .before .before .before .before .before .before .before .before .args .s .now) (c .before .u .given .1) (c .before .before .before .text-at3 .ensures)
 
-text-at-requires : tie.Need-text-at-requires
-text-at-requires c κs = search needs
-
-enum-known-a : tie.Need-enum-known-a
-enum-known-a c = search needs
-
-enum-told : tie.Need-enum-told
-enum-told c = search needs
-
-no-sensor-requires : tie.Need-no-sensor-requires
-no-sensor-requires c κs = search needs
-
 returns : tie.Need-returns
 unfolding headAt
 returns c = rw (c .no-sensor .ensures, told (textOf (c .before .before .before .before .before .args .s .now)) (c .before .enum-told .given .1) (c .before .before .before .text-at .ensures .0))
-
-text-at-requires-2 : tie.Need-text-at-requires-2
-text-at-requires-2 c κs = search needs
-
-enum-known-d : tie.Need-enum-known-d
-enum-known-d c = search needs
-
-enum-told-2 : tie.Need-enum-told-2
-enum-told-2 c = search needs
-
-no-sensor-requires-2 : tie.Need-no-sensor-requires-2
-no-sensor-requires-2 c κs = search needs
 
 returns-2 : tie.Need-returns-2
 unfolding headAt
 returns-2 c = rw (c .no-sensor2 .ensures, span1 (c .before .before .before .before) .text, told (textOf (c .before .before .before .before .before .before .before .before .before .args .s .now)) (c .before .enum-told2 .given .1) (c .before .before .before .text-at2 .ensures .0))
 
-text-at-requires-3 : tie.Need-text-at-requires-3
-text-at-requires-3 c κs = search needs
-
-enum-known-u : tie.Need-enum-known-u
-enum-known-u c = search needs
-
-enum-told-3 : tie.Need-enum-told-3
-enum-told-3 c = search needs
-
-no-sensor-requires-3 : tie.Need-no-sensor-requires-3
-no-sensor-requires-3 c κs = search needs
-
 returns-3 : tie.Need-returns-3
 unfolding headAt
 returns-3 c = rw (c .no-sensor3 .ensures, span1 (c .before .before .before .before .before .before .before .before) .text, span2 (c .before .before .before .before) .text, told (textOf (c .before .before .before .before .before .before .before .before .before .before .before .before .before .args .s .now)) (c .before .enum-told3 .given .1) (c .before .before .before .text-at3 .ensures .0))
-
-byte-at-requires : tie.Need-byte-at-requires
-byte-at-requires c κs = search needs
-
-enum-known-kind : tie.Need-enum-known-kind
-enum-known-kind c = search needs
-
-enum-told-4 : tie.Need-enum-told-4
-enum-told-4 c = search needs
-
-no-sensor-requires-4 : tie.Need-no-sensor-requires-4
-no-sensor-requires-4 c κs = search needs
 
 returns-4 : tie.Need-returns-4
 unfolding headAt
@@ -136,57 +88,9 @@ sub-t36 c = span3 (c .before .before .before .before .before .before .before .be
 cast-t37 : tie.Need-cast-t37
 cast-t37 c = omega (arith, span3 (c .before .before .before .before .before .before .before .before .before .before) .room)
 
-no-limits-requires : tie.Need-no-limits-requires
-no-limits-requires c κs = search needs
-
-blank-choice-requires : tie.Need-blank-choice-requires
-blank-choice-requires c κs = search needs
-
 returns-5 : tie.Need-returns-5
 returns-5 c = head-there (span1 (c .before .before .before .before .before .before .before .before .before .before .before .before .before .before .before .before .before .before .before .before)) (span2 (c .before .before .before .before .before .before .before .before .before .before .before .before .before .before .before .before)) (span3 (c .before .before .before .before .before .before .before .before .before .before .before .before)) (told (byteOf (c .before .before .before .before .before .before .before .before .before .before .before .before .before .before .before .before .before .before .before .before .before .before .before .before .before .args .s .now)) (c .before .before .before .before .before .before .before .before .before .kind .given .1) (c .before .before .before .before .before .before .before .before .before .before .before .byte-at .ensures)) (c .before .before .before .before .before .before .padded-32 .ensures) (c .before .before .before .before .padded-64 .ensures) (c .before .before .padded-8 .ensures) (c .before .no-limits .ensures) (c .blank-choice .ensures)
 
 pub head-at-spec : {M : Type 1} → statement M
 head-at-spec =
-    tie.close
-    (tie.spec
-    text-at-requires
-    enum-known-a
-    enum-told
-    no-sensor-requires
-    returns
-    text-at-requires-2
-    enum-known-d
-    enum-told-2
-    no-sensor-requires-2
-    returns-2
-    text-at-requires-3
-    enum-known-u
-    enum-told-3
-    no-sensor-requires-3
-    returns-3
-    byte-at-requires
-    enum-known-kind
-    enum-told-4
-    no-sensor-requires-4
-    returns-4
-    sub-padded-32
-    part-padded-32-start
-    part-padded-32-end
-    padded-32-requires
-    sub-t22
-    cast-t23
-    sub-padded-64
-    part-padded-64-start
-    part-padded-64-end
-    padded-64-requires
-    sub-t29
-    cast-t30
-    sub-padded-8
-    part-padded-8-start
-    part-padded-8-end
-    padded-8-requires
-    sub-t36
-    cast-t37
-    no-limits-requires
-    blank-choice-requires
-    returns-5)
+    tie.close (tie.spec (λ c κs. search needs) (λ c. search needs) (λ c. search needs) (λ c κs. search needs) returns (λ c κs. search needs) (λ c. search needs) (λ c. search needs) (λ c κs. search needs) returns-2 (λ c κs. search needs) (λ c. search needs) (λ c. search needs) (λ c κs. search needs) returns-3 (λ c κs. search needs) (λ c. search needs) (λ c. search needs) (λ c κs. search needs) returns-4 sub-padded-32 part-padded-32-start part-padded-32-end padded-32-requires sub-t22 cast-t23 sub-padded-64 part-padded-64-start part-padded-64-end padded-64-requires sub-t29 cast-t30 sub-padded-8 part-padded-8-start part-padded-8-end padded-8-requires sub-t36 cast-t37 (λ c κs. search needs) (λ c κs. search needs) returns-5)

@@ -20,29 +20,8 @@ bytes : (c : tie.After-known-told)
     → bytesAt 4 (behind (c .before .before .before .before .before .args .s .now) (c .before .before .before .before .before .args .c)) ≡ taken (take (c .before .a .given .0 .1 .0 - c .before .a .given .0 .0) (drop (c .before .a .given .0 .0) (c .before .before .before .before .before .args .s .now))) (drop (c .before .a .given .0 .1 .0) (c .before .before .before .before .before .args .s .now))
 bytes c = told (textOf (c .before .before .before .before .before .args .s .now)) (c .before .a .given .1) (c .before .before .before .bytes-at .ensures .0)
 
-bytes-at-requires : tie.Need-bytes-at-requires
-bytes-at-requires c κs = search needs
-
-enum-known-a : tie.Need-enum-known-a
-enum-known-a c = search needs
-
-enum-told : tie.Need-enum-told
-enum-told c = search needs
-
 returns : tie.Need-returns
-returns c = limit-none _ _ (told (textOf (c .before .before .before .before .args .s .now)) (c .enum-told .given .1) (c .before .before .bytes-at .ensures .0))
-
-sub-w : tie.Need-sub-w
-sub-w c = omega (arith, span c)
-
-part-w-start : tie.Need-part-w-start
-part-w-start c = omega (arith, span c)
-
-part-w-end : tie.Need-part-w-end
-part-w-end c = omega (arith, span c)
-
-shared-slice-read-first : tie.Need-shared-slice-read-first
-shared-slice-read-first c = omega (arith, span (c .before .before))
+returns c = limit-none _ _ (told (textOf _) (c .enum-told .given .1) (c .before .before .bytes-at .ensures .0))
 
 shared-slice-read-second : tie.Need-shared-slice-read-second
 shared-slice-read-second c = omega (arith, span (c .before .before .before))
@@ -51,52 +30,27 @@ shared-slice-read-third : tie.Need-shared-slice-read-third
 shared-slice-read-third c = omega (arith, span (c .before .before .before .before))
 
 shared-slice-read-fourth : tie.Need-shared-slice-read-fourth
-shared-slice-read-fourth c = omega (arith, span (c .before .before .before .before .before))
-
-biased-word-requires : tie.Need-biased-word-requires
-biased-word-requires c κs = search needs
+shared-slice-read-fourth c =
+    let c1 = c .before .before .before .before .before in
+    omega (arith, span c1)
 
 returns-2 : tie.Need-returns-2
-returns-2 c = limit-integer _ _ _ _ (bytes (c .before .before .before .before .before .before .before)) _ (c .before .if1 .taken) (c .biased-word .ensures)
-
-grid-word-requires : tie.Need-grid-word-requires
-grid-word-requires c κs = search needs
-
-enum-known-n : tie.Need-enum-known-n
-enum-known-n c = search needs
-
-cast-t25 : tie.Need-cast-t25
-cast-t25 c = search needs
+returns-2 c =
+    let c1 = c .before in
+    let c2 = c1 .before .before .before .before .before .before in
+    limit-integer _ _ _ _ (bytes c2) _ (c1 .if1 .taken) (c .biased-word .ensures)
 
 returns-3 : tie.Need-returns-3
-returns-3 c = limit-float _ _ _ _ (bytes (c .before .before .before .before .before .before .before .before .before .before)) _ (c .before .before .before .before .if1 .left) (sym (c .before .n .given .1) ∙ c .before .before .before .grid-word .ensures)
-
-enum-told-2 : tie.Need-enum-told-2
-enum-told-2 c = search needs
+returns-3 c =
+    let c1 = c .before .before .before .before in
+    let c2 = c1 .before .before .before .before .before .before in
+    limit-float _ _ _ _ (bytes c2) _ (c1 .if1 .left) (sym (c .before .n .given .1) ∙ c .before .before .before .grid-word .ensures)
 
 returns-4 : tie.Need-returns-4
-returns-4 c = limit-float _ _ _ _ (bytes (c .before .before .before .before .before .before .before .before .before)) _ (c .before .before .before .if1 .left) (sym (c .enum-told2 .given .1) ∙ c .before .before .grid-word .ensures)
+returns-4 c =
+    let c1 = c .before .before .before .before .before .before .before .before .before in
+    limit-float _ _ _ _ (bytes c1) _ (c .before .before .before .if1 .left) (sym (c .enum-told2 .given .1) ∙ c .before .before .grid-word .ensures)
 
 pub limit-at-spec : {M : Type 1} → statement M
 limit-at-spec =
-    tie.close
-    (tie.spec
-    bytes-at-requires
-    enum-known-a
-    enum-told
-    returns
-    sub-w
-    part-w-start
-    part-w-end
-    shared-slice-read-first
-    shared-slice-read-second
-    shared-slice-read-third
-    shared-slice-read-fourth
-    biased-word-requires
-    returns-2
-    grid-word-requires
-    enum-known-n
-    cast-t25
-    returns-3
-    enum-told-2
-    returns-4)
+    tie.close (tie.spec (λ c κs. search needs) (λ c. search needs) (λ c. search needs) returns (λ c. omega (arith, span c)) (λ c. omega (arith, span c)) (λ c. omega (arith, span c)) (λ c. omega (arith, span (c .before .before))) shared-slice-read-second shared-slice-read-third shared-slice-read-fourth (λ c κs. search needs) returns-2 (λ c κs. search needs) (λ c. search needs) (λ c. search needs) returns-3 (λ c. search needs) returns-4)

@@ -8,56 +8,38 @@ use Rattle.layout.proofs.TakenLaws.{told}
 use Rattle.layout.proofs.limits_at.Statement.{statement}
 use Rattle.layout.proofs.limits_at.Tie as tie
 
-byte-at-requires : tie.Need-byte-at-requires
-byte-at-requires c κs = search needs
-
-enum-known-n : tie.Need-enum-known-n
-enum-known-n c = search needs
-
-enum-told : tie.Need-enum-told
-enum-told c = search needs
-
 returns : tie.Need-returns
 unfolding limitsAt
 returns c = rw (told (byteOf (now (c .before .before .before .before .args .s))) (c .enum-told .given .1) (c .before .before .byte-at .ensures))
 
-no-limits-requires : tie.Need-no-limits-requires
-no-limits-requires c κs = search needs
-
-two-at-requires : tie.Need-two-at-requires
-two-at-requires c κs = search needs
-
-four-at-requires : tie.Need-four-at-requires
-four-at-requires c κs = search needs
-
 returns-2 : tie.Need-returns-2
 unfolding limitsAt
-returns-2 c = rw (told (byteOf (now (c .before .before .before .before .before .before .before .args .s))) (c .before .before .before .n .given .1) (c .before .before .before .before .before .byte-at .ensures), c .before .match2 .keys1, c .no-limits .ensures)
+returns-2 c =
+    let c1 = c .before .before .before .before .before in
+    let c2 = c1 .before .before in
+    rw (told (byteOf (now (c2 .args .s))) (c .before .before .before .n .given .1) (c1 .byte-at .ensures), c .before .match2 .keys1, c .no-limits .ensures)
 
 returns-3 : tie.Need-returns-3
 unfolding limitsAt
-returns-3 c = rw (told (byteOf (now (c .before .before .before .before .before .before .before .args .s))) (c .before .before .before .n .given .1) (c .before .before .before .before .before .byte-at .ensures), c .before .match2 .keys2, c .two-at .ensures)
+returns-3 c =
+    let c1 = c .before .before .before .before .before in
+    let c2 = c1 .before .before in
+    rw (told (byteOf (now (c2 .args .s))) (c .before .before .before .n .given .1) (c1 .byte-at .ensures), c .before .match2 .keys2, c .two-at .ensures)
 
 returns-4 : tie.Need-returns-4
 unfolding limitsAt
-returns-4 c = rw (told (byteOf (now (c .before .before .before .before .before .before .before .args .s))) (c .before .before .before .n .given .1) (c .before .before .before .before .before .byte-at .ensures), c .before .match2 .keys3, c .four-at .ensures)
+returns-4 c =
+    let c1 = c .before .before .before .before .before in
+    let c2 = c1 .before .before in
+    rw (told (byteOf (now (c2 .args .s))) (c .before .before .before .n .given .1) (c1 .byte-at .ensures), c .before .match2 .keys3, c .four-at .ensures)
 
 returns-5 : tie.Need-returns-5
 unfolding limitsAt
-returns-5 c = rw (told (byteOf (now (c .before .before .before .before .before .before .args .s))) (c .before .before .n .given .1) (c .before .before .before .before .byte-at .ensures), ne-eqb _ _ (c .match2 .rest .0 .0 .1), ne-eqb _ _ (c .match2 .rest .0 .1), ne-eqb _ _ (c .match2 .rest .1))
+returns-5 c =
+    let c1 = c .before .before .before .before in
+    let c2 = c1 .before .before in
+    rw (told (byteOf (now (c2 .args .s))) (c .before .before .n .given .1) (c1 .byte-at .ensures), ne-eqb _ _ (c .match2 .rest .0 .0 .1), ne-eqb _ _ (c .match2 .rest .0 .1), ne-eqb _ _ (c .match2 .rest .1))
 
 pub limits-at-spec : {M : Type 1} → statement M
 limits-at-spec =
-    tie.close
-    (tie.spec
-    byte-at-requires
-    enum-known-n
-    enum-told
-    returns
-    no-limits-requires
-    two-at-requires
-    four-at-requires
-    returns-2
-    returns-3
-    returns-4
-    returns-5)
+    tie.close (tie.spec (λ c κs. search needs) (λ c. search needs) (λ c. search needs) returns (λ c κs. search needs) (λ c κs. search needs) (λ c κs. search needs) returns-2 returns-3 returns-4 returns-5)

@@ -5,14 +5,8 @@ use Rattle.layout.proofs.TakenLaws.{pads}
 use Rattle.layout.proofs.padded_8.Statement.{statement}
 use Rattle.layout.proofs.padded_8.Tie as tie
 
-slice-aggregate-put-bytes : tie.Need-slice-aggregate-put-bytes
-slice-aggregate-put-bytes c = search needs
-
-put-bytes-requires : tie.Need-put-bytes-requires
-put-bytes-requires c κs = search needs
-
 returns : tie.Need-returns
 returns c = pads 8 (c .before .put-bytes .ensures) (omega arith)
 
 pub padded-8-spec : {M : Type 1} → statement M
-padded-8-spec = tie.close (tie.spec slice-aggregate-put-bytes put-bytes-requires returns)
+padded-8-spec = tie.close (tie.spec (λ c. search needs) (λ c κs. search needs) returns)

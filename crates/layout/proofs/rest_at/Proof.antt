@@ -5,18 +5,6 @@ use Rattle.machine.specs.Opening.{restAt}
 use Rattle.layout.proofs.rest_at.Statement.{statement}
 use Rattle.layout.proofs.rest_at.Tie as tie
 
-limited-requires : tie.Need-limited-requires
-limited-requires c κs = search needs
-
-limited-requires-2 : tie.Need-limited-requires-2
-limited-requires-2 c κs = search needs
-
-options-at-requires : tie.Need-options-at-requires
-options-at-requires c κs = search needs
-
-no-sensor-requires : tie.Need-no-sensor-requires
-no-sensor-requires c κs = search needs
-
 returns : tie.Need-returns
 unfolding restAt
 returns c = rw (c .limited .ensures, c .before .match .keys1)
@@ -43,15 +31,4 @@ returns-6 c = rw (c .no-sensor .ensures, ne-eqb _ _ (c .before .match .rest .0 .
 
 pub rest-at-spec : {M : Type 1} → statement M
 rest-at-spec =
-    tie.close
-    (tie.spec
-    limited-requires
-    limited-requires-2
-    options-at-requires
-    no-sensor-requires
-    returns
-    returns-2
-    returns-3
-    returns-4
-    returns-5
-    returns-6)
+    tie.close (tie.spec (λ c κs. search needs) (λ c κs. search needs) (λ c κs. search needs) (λ c κs. search needs) returns returns-2 returns-3 returns-4 returns-5 returns-6)

@@ -17,17 +17,8 @@ Inv-loop s count sheet sensors₀ next₀ k₀ sensors next k = Progress sensorA
 abbrev μ-loop : tie.MeasureT-loop
 μ-loop s count sheet sensors₀ next₀ k₀ sensors next k = count - k
 
-blank-sensor-requires : tie.Need-blank-sensor-requires Inv-loop μ-loop
-blank-sensor-requires c κs = search needs
-
 loop-holds : tie.Need-loop-holds Inv-loop μ-loop
 loop-holds c = begun (rw (c .blank-sensor .ensures))
-
-sensor-at-requires : tie.Need-sensor-at-requires Inv-loop μ-loop
-sensor-at-requires c κs = search needs
-
-no-sheet-requires : tie.Need-no-sheet-requires Inv-loop μ-loop
-no-sheet-requires c κs = search needs
 
 returns : tie.Need-returns Inv-loop μ-loop
 returns c = rw (c .no-sheet .ensures, fault (c .before .before .before .before .before .loop .inv) (omega arith) (rw (not-true (c .before .before .before .sensor-at .result .taken) (c .before .if1 .taken)) at (c .before .before .before .sensor-at .ensures)))
@@ -52,18 +43,4 @@ returns-2 c = sensors-there (c .before .before .before .before .args .sheet) (c 
 
 pub sensors-at-spec : {M : Type 1} → statement M
 sensors-at-spec =
-    tie.close
-    (tie.spec
-    Inv-loop
-    μ-loop
-    blank-sensor-requires
-    loop-holds
-    sensor-at-requires
-    no-sheet-requires
-    returns
-    mul-sensors
-    array-set-from-sensors
-    add-k
-    loop-less
-    loop-again
-    returns-2)
+    tie.close (tie.spec Inv-loop μ-loop (λ c κs. search needs) loop-holds (λ c κs. search needs) (λ c κs. search needs) returns mul-sensors array-set-from-sensors add-k loop-less loop-again returns-2)

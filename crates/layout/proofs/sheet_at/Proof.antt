@@ -15,18 +15,6 @@ use Rattle.layout.proofs.sheet_at.Tie as tie
 span : (c : tie.After-known-told) → (c .before .a .given .0 .0 + 5 ≡ c .before .a .given .0 .1 .0) × (c .before .a .given .0 .1 .0 ≤ length (c .before .before .before .before .before .args .s .now))
 span c = spanned (c .before .before .before .before .before .args .s .now) _ 5 (c .before .before .before .bytes-at .ensures) (c .before .a .given .1)
 
-bytes-at-requires : tie.Need-bytes-at-requires
-bytes-at-requires c κs = search needs
-
-enum-known-a : tie.Need-enum-known-a
-enum-known-a c = search needs
-
-enum-told : tie.Need-enum-told
-enum-told c = search needs
-
-no-sheet-requires : tie.Need-no-sheet-requires
-no-sheet-requires c κs = search needs
-
 returns : tie.Need-returns
 unfolding sheetAt
 returns c = rw (c .no-sheet .ensures, told (textOf (c .before .before .before .before .before .args .s .now)) (c .before .enum-told .given .1) (c .before .before .before .bytes-at .ensures .0))
@@ -40,39 +28,12 @@ part-same-start c = omega (arith, span c)
 part-same-end : tie.Need-part-same-end
 part-same-end c = span c .1
 
-slice-aggregate-same : tie.Need-slice-aggregate-same
-slice-aggregate-same c = search needs
-
-same-requires : tie.Need-same-requires
-same-requires c κs = search needs
-
-body-at-requires : tie.Need-body-at-requires
-body-at-requires c κs = search needs
-
 returns-2 : tie.Need-returns-2
 returns-2 c = c .body-at .ensures ∙ sheet-marked _ (told (textOf (c .before .before .before .before .before .before .before .before .before .before .args .s .now)) (c .before .before .before .before .before .before .a .given .1) (c .before .before .before .before .before .before .before .before .bytes-at .ensures .0)) (sym (c .before .before .same .ensures) ∙ c .before .if1 .taken)
-
-no-sheet-requires-2 : tie.Need-no-sheet-requires-2
-no-sheet-requires-2 c κs = search needs
 
 returns-3 : tie.Need-returns-3
 returns-3 c = rw (c .no-sheet2 .ensures, sheet-unmarked _ (told (textOf (c .before .before .before .before .before .before .before .before .before .before .args .s .now)) (c .before .before .before .before .before .before .a .given .1) (c .before .before .before .before .before .before .before .before .bytes-at .ensures .0)) (sym (c .before .before .same .ensures) ∙ c .before .if1 .left))
 
 pub sheet-at-spec : {M : Type 1} → statement M
 sheet-at-spec =
-    tie.close
-    (tie.spec
-    bytes-at-requires
-    enum-known-a
-    enum-told
-    no-sheet-requires
-    returns
-    sub-same
-    part-same-start
-    part-same-end
-    slice-aggregate-same
-    same-requires
-    body-at-requires
-    returns-2
-    no-sheet-requires-2
-    returns-3)
+    tie.close (tie.spec (λ c κs. search needs) (λ c. search needs) (λ c. search needs) (λ c κs. search needs) returns sub-same part-same-start part-same-end (λ c. search needs) (λ c κs. search needs) (λ c κs. search needs) returns-2 (λ c κs. search needs) returns-3)

@@ -11,55 +11,20 @@ use Rattle.line.proofs.CopyLaws as copy
 use Rattle.line.proofs.argument.Statement.{statement}
 use Rattle.line.proofs.argument.Tie as tie
 
-argument-word-requires : tie.Need-argument-word-requires
-argument-word-requires c κs = search needs
-
-sub-text-len : tie.Need-sub-text-len
-sub-text-len c = search needs
-
-part-text-len-start : tie.Need-part-text-len-start
-part-text-len-start c = search needs
-
-part-text-len-end : tie.Need-part-text-len-end
-part-text-len-end c = search needs
-
-text-len-requires : tie.Need-text-len-requires
-text-len-requires c κs = search needs
-
 returns : tie.Need-returns
-returns c = copy.too-short (argument (c .before .before .before .before .before .before .args .line .now) (c .before .before .before .before .before .before .args .k)) (c .before .before .before .before .before .before .args .into .now) (c .before .text-len .result) (c .before .text-len .ensures ∙ ap (λ (l : List ℕ). length (unescape l)) (c .before .before .before .argument-word .ensures .is)) (c .if1 .taken)
-
-sub-put-unescaped : tie.Need-sub-put-unescaped
-sub-put-unescaped c = search needs
-
-part-put-unescaped-start : tie.Need-part-put-unescaped-start
-part-put-unescaped-start c = search needs
-
-part-put-unescaped-end : tie.Need-part-put-unescaped-end
-part-put-unescaped-end c = search needs
-
-put-unescaped-requires : tie.Need-put-unescaped-requires
-put-unescaped-requires c κs = search needs
-
-same-length : tie.Need-same-length
-same-length c = search needs
+returns c =
+    let c1 = c .before .before .before .before .before .before in
+    copy.too-short (argument (c1 .args .line .now) (c1 .args .k)) (c1 .args .into .now) (c .before .text-len .result) (c .before .text-len .ensures ∙ ap (λ (l : List ℕ). length (unescape l)) (c .before .before .before .argument-word .ensures .is)) (c .if1 .taken)
 
 returns-2 : tie.Need-returns-2
-returns-2 c = copy.fits (argument (c .before .before .before .before .before .before .before .before .before .before .before .args .line .now) (c .before .before .before .before .before .before .before .before .before .before .before .args .k)) (c .before .before .before .before .before .before .before .before .before .before .before .args .into .now) (c .before .before .before .before .before .before .text-len .result) (c .before .before .before .before .before .before .text-len .ensures ∙ ap (λ (l : List ℕ). length (unescape l)) (c .before .before .before .before .before .before .before .before .argument-word .ensures .is)) _ _ (c .before .before .before .before .before .if1 .left) (O.said (c .before .before .put-unescaped .ensures) (ap unescape (c .before .before .before .before .before .before .before .before .argument-word .ensures .is)))
+returns-2 c =
+    let c1 = c .before .before in
+    let c2 = c1 .before .before .before in
+    let c3 = c2 .before in
+    let c4 = c3 .before .before in
+    let c5 = c4 .before .before .before in
+    copy.fits (argument (c5 .args .line .now) (c5 .args .k)) (c5 .args .into .now) (c3 .text-len .result) (c3 .text-len .ensures ∙ ap (λ (l : List ℕ). length (unescape l)) (c4 .argument-word .ensures .is)) _ _ (c2 .if1 .left) (O.said (c1 .put-unescaped .ensures) (ap unescape (c4 .argument-word .ensures .is)))
 
 pub argument-spec : {M : Type 1} → statement M
 argument-spec =
-    tie.close
-    (tie.spec
-    argument-word-requires
-    sub-text-len
-    part-text-len-start
-    part-text-len-end
-    text-len-requires
-    returns
-    sub-put-unescaped
-    part-put-unescaped-start
-    part-put-unescaped-end
-    put-unescaped-requires
-    same-length
-    returns-2)
+    tie.close (tie.spec (λ c κs. search needs) (λ c. search needs) (λ c. search needs) (λ c. search needs) (λ c κs. search needs) returns (λ c. search needs) (λ c. search needs) (λ c. search needs) (λ c κs. search needs) (λ c. search needs) returns-2)

@@ -16,41 +16,12 @@ Inv-loop line k p₀ left₀ p left = (p ≤ length line) × (getD (words (drop 
 abbrev μ-loop : tie.MeasureT-loop
 μ-loop line k p₀ left₀ p left = left
 
-word-len-requires : tie.Need-word-len-requires Inv-loop μ-loop
-word-len-requires c κs = search needs
-
 loop-holds : tie.Need-loop-holds Inv-loop μ-loop
 loop-holds c = W.from-start (c .before .before .args .line .now) (c .word-len .result) (c .before .before .args .k) (c .word-len .ensures)
 
-next-word-requires : tie.Need-next-word-requires Inv-loop μ-loop
-next-word-requires c κs = search needs
-
-sub-left : tie.Need-sub-left Inv-loop μ-loop
-sub-left c = search needs
-
-loop-less : tie.Need-loop-less Inv-loop μ-loop
-loop-less c = search needs
-
 loop-again : tie.Need-loop-again Inv-loop μ-loop
-loop-again c = (c .next-word .ensures .inside, W.skipped (c .before .before .before .before .before .args .line .now) (c .before .before .loop .p) (c .next-word .result) (c .next-word .ensures) (c .before .before .loop .left) (omega arith) ∙ c .before .before .loop .inv .1)
-
-next-word-requires-2 : tie.Need-next-word-requires-2 Inv-loop μ-loop
-next-word-requires-2 c κs = search needs
-
-returns : tie.Need-returns Inv-loop μ-loop
-returns c = W.found (c .before .before .before .before .before .args .line .now) (c .before .before .loop .p) (c .next-word2 .result) (c .next-word2 .ensures) (c .before .before .loop .left) (getD (behind (c .before .before .before .before .before .args .line .now)) (c .before .before .before .before .before .args .k) []) (omega arith) (c .before .before .loop .inv .1)
+loop-again c = (c .next-word .ensures .inside, W.skipped _ _ (c .next-word .result) (c .next-word .ensures) (c .before .before .loop .left) (omega arith) ∙ c .before .before .loop .inv .1)
 
 pub argument-word-spec : {M : Type 1} → statement M
 argument-word-spec =
-    tie.close
-    (tie.spec
-    Inv-loop
-    μ-loop
-    word-len-requires
-    loop-holds
-    next-word-requires
-    sub-left
-    loop-less
-    loop-again
-    next-word-requires-2
-    returns)
+    tie.close (tie.spec Inv-loop μ-loop (λ c κs. search needs) loop-holds (λ c κs. search needs) (λ c. search needs) (λ c. search needs) loop-again (λ c κs. search needs) (λ c. search (W.found, needs)))

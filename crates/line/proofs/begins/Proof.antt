@@ -8,11 +8,5 @@ use Rattle.line.proofs.begins.Tie as tie
 returns : tie.Need-returns
 returns c = sym (S.past-begins (c .before .args .text .now) (c .before .args .j) (c .before .args .b) (c .if1 .taken))
 
-shared-slice-read-result : tie.Need-shared-slice-read-result
-shared-slice-read-result c = search needs
-
-returns-2 : tie.Need-returns-2
-returns-2 c = sym (S.at-begins (c .before .before .args .text .now) (c .before .before .args .j) (c .before .before .args .b) (c .before .if1 .left))
-
 pub begins-spec : {M : Type 1} → statement M
-begins-spec = tie.close (tie.spec returns shared-slice-read-result returns-2)
+begins-spec = tie.close (tie.spec returns (λ c. search needs) (λ c. search (S.at-begins, needs)))

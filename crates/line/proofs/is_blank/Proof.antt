@@ -5,12 +5,9 @@ use Rattle.output.proofs.RunLaws.{run-whole}
 use Rattle.line.proofs.is_blank.Statement.{statement}
 use Rattle.line.proofs.is_blank.Tie as tie
 
-lead-requires : tie.Need-lead-requires
-lead-requires c κs = search needs
-
 returns : tie.Need-returns
 unfolding blankLine
 returns c = rw (← run-whole blank (c .before .before .args .line .now), c .lead .ensures)
 
 pub is-blank-spec : {M : Type 1} → statement M
-is-blank-spec = tie.close (tie.spec lead-requires returns)
+is-blank-spec = tie.close (tie.spec (λ c κs. search needs) returns)

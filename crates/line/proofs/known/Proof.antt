@@ -5,18 +5,6 @@ use Rattle.line.specs.Line as spec
 use Rattle.line.proofs.known.Statement.{statement}
 use Rattle.line.proofs.known.Tie as tie
 
-escape-requires : tie.Need-escape-requires
-escape-requires c κs = search needs
-
-enum-told : tie.Need-enum-told
-enum-told c = search needs
-
-enum-told-2 : tie.Need-enum-told-2
-enum-told-2 c = search needs
-
-enum-told-3 : tie.Need-enum-told-3
-enum-told-3 c = search needs
-
 returns : tie.Need-returns
 returns c = ap spec.known (sym (c .enum-told .given .1) ∙ c .before .before .escape .ensures)
 
@@ -28,5 +16,4 @@ returns-3 c = ap spec.known (sym (c .enum-told3 .given .1) ∙ c .before .before
 
 pub known-spec : {M : Type 1} → statement M
 known-spec =
-    tie.close
-    (tie.spec escape-requires enum-told enum-told-2 enum-told-3 returns returns-2 returns-3)
+    tie.close (tie.spec (λ c κs. search needs) (λ c. search needs) (λ c. search needs) (λ c. search needs) returns returns-2 returns-3)

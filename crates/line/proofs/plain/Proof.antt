@@ -6,31 +6,31 @@ use Rattle.line.proofs.plain.Tie as tie
 
 returns : tie.Need-returns
 unfolding plain
-returns c = rw (c .match .keys1)
+returns c = cc
 
 returns-2 : tie.Need-returns-2
 unfolding plain
-returns-2 c = rw (c .match .keys2)
+returns-2 c = cc
 
 returns-3 : tie.Need-returns-3
 unfolding plain
-returns-3 c = rw (c .match .keys3)
+returns-3 c = cc
 
 returns-4 : tie.Need-returns-4
 unfolding plain
-returns-4 c = rw (c .match .keys4)
+returns-4 c = cc
 
 returns-5 : tie.Need-returns-5
 unfolding plain
-returns-5 c = rw (c .match .keys5)
+returns-5 c = cc
 
 returns-6 : tie.Need-returns-6
 unfolding plain
-returns-6 c = rw (c .match .keys6)
+returns-6 c = cc
 
 returns-7 : tie.Need-returns-7
 unfolding plain
-returns-7 c = rw (c .match .keys7)
+returns-7 c = cc
 
 returns-8 : tie.Need-returns-8
 unfolding plain
@@ -38,5 +38,4 @@ returns-8 c = simp (ne-eqb _ _ (c .match .rest .1), ne-eqb _ _ (c .match .rest .
 
 pub plain-spec : {M : Type 1} → statement M
 plain-spec =
-    tie.close
-    (tie.spec returns returns-2 returns-3 returns-4 returns-5 returns-6 returns-7 returns-8)
+    tie.close (tie.spec returns returns-2 returns-3 returns-4 returns-5 returns-6 returns-7 returns-8)

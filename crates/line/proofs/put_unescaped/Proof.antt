@@ -16,97 +16,29 @@ Inv-loop into₀ at w p₀ i₀ into p i = U.Put (output into₀ at) w (output i
 abbrev μ-loop : tie.MeasureT-loop
 μ-loop into₀ at w p₀ i₀ into p i = length w - i
 
-loop-holds : tie.Need-loop-holds Inv-loop μ-loop
-loop-holds c = U.put-none _ _
-
-shared-slice-read-b : tie.Need-shared-slice-read-b Inv-loop μ-loop
-shared-slice-read-b c = search needs
-
-put-byte-requires : tie.Need-put-byte-requires Inv-loop μ-loop
-put-byte-requires c κs = search needs
-
-add-i : tie.Need-add-i Inv-loop μ-loop
-add-i c = search needs
-
-loop-less : tie.Need-loop-less Inv-loop μ-loop
-loop-less c = search needs
-
 loop-again : tie.Need-loop-again Inv-loop μ-loop
-loop-again c = U.put-more (c .before .before .before .before .before .before .before .loop .inv) (U.raw (c .before .before .before .before .before .before .before .before .before .before .args .w .now) (c .before .before .before .before .before .before .before .loop .i) (omega arith) (c .before .before .before .before .if1 .taken)) (omega arith) (c .before .before .put-byte .ensures)
-
-add-if2 : tie.Need-add-if2 Inv-loop μ-loop
-add-if2 c = search needs
-
-same-length : tie.Need-same-length Inv-loop μ-loop
-same-length c = O.same (c .before .before .before .before .loop .inv .wrote)
-
-returns : tie.Need-returns Inv-loop μ-loop
-returns c = U.put-all (c .before .before .before .before .loop .inv) (U.cut (c .before .before .before .before .before .before .before .args .w .now) (c .before .before .before .before .loop .i) (omega arith) (omega arith) (c .before .if1 .left))
-
-add-escape : tie.Need-add-escape Inv-loop μ-loop
-add-escape c = search needs
-
-shared-slice-read-escape : tie.Need-shared-slice-read-escape Inv-loop μ-loop
-shared-slice-read-escape c = search needs
-
-escape-requires : tie.Need-escape-requires Inv-loop μ-loop
-escape-requires c κs = search needs
-
-enum-known-x : tie.Need-enum-known-x Inv-loop μ-loop
-enum-known-x c = search needs
-
-put-byte-requires-2 : tie.Need-put-byte-requires-2 Inv-loop μ-loop
-put-byte-requires-2 c κs = search needs
-
-add-i-2 : tie.Need-add-i-2 Inv-loop μ-loop
-add-i-2 c = search needs
-
-loop-less-2 : tie.Need-loop-less-2 Inv-loop μ-loop
-loop-less-2 c = search needs
+loop-again c =
+    let c1 = c .before .before .before .before in
+    let c2 = c1 .before .before .before in
+    U.put-more (c2 .loop .inv) (U.raw _ (c2 .loop .i) (omega arith) (c1 .if1 .taken)) (omega arith) (c .before .before .put-byte .ensures)
 
 loop-again-2 : tie.Need-loop-again-2 Inv-loop μ-loop
-loop-again-2 c = U.put-more (c .before .before .before .before .before .before .before .before .before .before .before .before .before .loop .inv) (U.byte (c .before .before .before .before .before .before .before .before .before .before .before .before .before .before .before .before .args .w .now) (c .before .before .before .before .before .before .before .before .before .before .before .before .before .loop .i) (omega arith) (c .before .before .before .before .before .before .before .before .before .before .if1 .left) (c .before .before .before .before .before .x .given .0 .0) (sym (c .before .before .before .before .before .before .before .escape .ensures) ∙ c .before .before .before .before .before .x .given .1)) (omega arith) (c .before .before .put-byte2 .ensures)
-
-add-i-3 : tie.Need-add-i-3 Inv-loop μ-loop
-add-i-3 c = search needs
-
-loop-less-3 : tie.Need-loop-less-3 Inv-loop μ-loop
-loop-less-3 c = search needs
+loop-again-2 c =
+    let c1 = c .before .before in
+    let c2 = c1 .before .before .before in
+    let c3 = c2 .before .before in
+    let c4 = c3 .before .before .before in
+    let c5 = c4 .before .before .before in
+    let c6 = c5 .before .before .before in
+    U.put-more (c5 .loop .inv) (U.byte (c6 .args .w .now) (c5 .loop .i) (omega arith) (c4 .if1 .left) (c2 .x .given .0 .0) (sym (c3 .escape .ensures) ∙ c2 .x .given .1)) (omega arith) (c1 .put-byte2 .ensures)
 
 loop-again-3 : tie.Need-loop-again-3 Inv-loop μ-loop
-loop-again-3 c = U.put-nothing (c .before .before .before .before .before .before .before .loop .inv) (U.skip (c .before .before .before .before .before .before .before .before .before .before .args .w .now) (c .before .before .before .before .before .before .before .loop .i) (omega arith) (c .before .before .before .before .if1 .left) (U.none-meant _ _ (c .before .escape .ensures) (c .match .keys2))) (omega arith)
-
-same-length-2 : tie.Need-same-length-2 Inv-loop μ-loop
-same-length-2 c = O.same (c .before .loop .inv .wrote)
-
-returns-2 : tie.Need-returns-2 Inv-loop μ-loop
-returns-2 c = U.put-all (c .before .loop .inv) (U.over (c .before .before .before .before .args .w .now) (c .before .loop .i) (omega arith))
+loop-again-3 c =
+    let c1 = c .before .before .before .before in
+    let c2 = c1 .before .before .before in
+    let c3 = c2 .before .before .before in
+    U.put-nothing (c2 .loop .inv) (U.skip (c3 .args .w .now) (c2 .loop .i) (omega arith) (c1 .if1 .left) (U.none-meant _ _ (c .before .escape .ensures) (c .match .keys2))) (omega arith)
 
 pub put-unescaped-spec : {M : Type 1} → statement M
 put-unescaped-spec =
-    tie.close
-    (tie.spec
-    Inv-loop
-    μ-loop
-    loop-holds
-    shared-slice-read-b
-    put-byte-requires
-    add-i
-    loop-less
-    loop-again
-    add-if2
-    same-length
-    returns
-    add-escape
-    shared-slice-read-escape
-    escape-requires
-    enum-known-x
-    put-byte-requires-2
-    add-i-2
-    loop-less-2
-    loop-again-2
-    add-i-3
-    loop-less-3
-    loop-again-3
-    same-length-2
-    returns-2)
+    tie.close (tie.spec Inv-loop μ-loop (λ c. U.put-none _ _) (λ c. search needs) (λ c κs. search needs) (λ c. search needs) (λ c. search needs) loop-again (λ c. search needs) (λ c. search (O.same, needs)) (λ c. search (U.put-all, U.cut, needs)) (λ c. search needs) (λ c. search needs) (λ c κs. search needs) (λ c. search needs) (λ c κs. search needs) (λ c. search needs) (λ c. search needs) loop-again-2 (λ c. search needs) (λ c. search needs) loop-again-3 (λ c. O.same (c .before .loop .inv .wrote)) (λ c. search (U.put-all, U.over, needs)))

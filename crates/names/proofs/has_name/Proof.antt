@@ -7,21 +7,9 @@ use Rattle.output.specs.Text.{same}
 use Rattle.names.proofs.has_name.Statement.{statement}
 use Rattle.names.proofs.has_name.Tie as tie
 
-slice-aggregate-prefix : tie.Need-slice-aggregate-prefix
-slice-aggregate-prefix c = search needs
-
-cast-prefix : tie.Need-cast-prefix
-cast-prefix c = search needs
-
-prefix-requires : tie.Need-prefix-requires
-prefix-requires c κs = search needs
-
-same-requires : tie.Need-same-requires
-same-requires c κs = search needs
-
 returns : tie.Need-returns
 returns c = c .same .ensures ∙ ap (λ (l : List ℕ). same l (c .before .before .before .before .before .before .args .name .now)) (c .before .prefix .ensures)
 
 pub has-name-spec : {M : Type 1} → statement M
 has-name-spec =
-    tie.close (tie.spec slice-aggregate-prefix cast-prefix prefix-requires same-requires returns)
+    tie.close (tie.spec (λ c. search needs) (λ c. search needs) (λ c κs. search needs) (λ c κs. search needs) returns)

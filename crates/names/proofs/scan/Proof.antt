@@ -23,26 +23,8 @@ Inv-names names sheet most list₀ from₀ list from = Scanning sheet names list
 abbrev μ-names : tie.MeasureT-names
 μ-names names sheet most list₀ from₀ list from = suc (length names) - from
 
-held-requires : tie.Need-held-requires Inv-sensors μ-sensors Inv-names μ-names
-held-requires c κs = search needs
-
-no-places-requires : tie.Need-no-places-requires Inv-sensors μ-sensors Inv-names μ-names
-no-places-requires c κs = search needs
-
 names-holds : tie.Need-names-holds Inv-sensors μ-sensors Inv-names μ-names
 names-holds c = scanning _ _ (c .no-places .ensures)
-
-sub-first-len : tie.Need-sub-first-len Inv-sensors μ-sensors Inv-names μ-names
-sub-first-len c = search needs
-
-part-first-len-start : tie.Need-part-first-len-start Inv-sensors μ-sensors Inv-names μ-names
-part-first-len-start c = search needs
-
-part-first-len-end : tie.Need-part-first-len-end Inv-sensors μ-sensors Inv-names μ-names
-part-first-len-end c = search needs
-
-first-len-requires : tie.Need-first-len-requires Inv-sensors μ-sensors Inv-names μ-names
-first-len-requires c κs = search needs
 
 -- the name at hand lies within the text
 inside : (c : tie.After-first-len Inv-sensors μ-sensors Inv-names μ-names) → c .before .before .before .names .from + c .first-len .result ≤ length (c .before .before .before .before .before .before .before .args .names .now)
@@ -54,12 +36,6 @@ add-to c = let k = inside c in search needs
 sensors-holds : tie.Need-sensors-holds Inv-sensors μ-sensors Inv-names μ-names
 sensors-holds c = searching _ _
 
-mul-sensor : tie.Need-mul-sensor Inv-sensors μ-sensors Inv-names μ-names
-mul-sensor c = search needs
-
-element-copy-out-sensor : tie.Need-element-copy-out-sensor Inv-sensors μ-sensors Inv-names μ-names
-element-copy-out-sensor c = search needs
-
 sub-has-name : tie.Need-sub-has-name Inv-sensors μ-sensors Inv-names μ-names
 sub-has-name c = omega arith
 
@@ -69,20 +45,11 @@ part-has-name-start c = let k = inside (c .before .before .before) in search nee
 part-has-name-end : tie.Need-part-has-name-end Inv-sensors μ-sensors Inv-names μ-names
 part-has-name-end c = let k = inside (c .before .before .before) in search needs
 
-has-name-requires : tie.Need-has-name-requires Inv-sensors μ-sensors Inv-names μ-names
-has-name-requires c κs = search needs
-
-add-j : tie.Need-add-j Inv-sensors μ-sensors Inv-names μ-names
-add-j c = search needs
-
 sensors-less : tie.Need-sensors-less Inv-sensors μ-sensors Inv-names μ-names
 sensors-less c = omega arith
 
 sensors-again : tie.Need-sensors-again Inv-sensors μ-sensors Inv-names μ-names
 sensors-again c = searching-on (c .before .before .before .before .before .sensors .inv) (sym (c .before .has-name .ensures) ∙ c .if1 .left) (omega arith)
-
-no-places-requires-2 : tie.Need-no-places-requires-2 Inv-sensors μ-sensors Inv-names μ-names
-no-places-requires-2 c κs = search needs
 
 -- where the search is left, it has the place of the name
 abbrev start : tie.Left-sensors Inv-sensors μ-sensors Inv-names μ-names → tie.Start Inv-sensors μ-sensors Inv-names μ-names
@@ -120,34 +87,4 @@ returns-2 c = c .no-places2 .ensures ∙ scanning-unknown (c .before .before .be
 
 pub scan-spec : {M : Type 1} → statement M
 scan-spec =
-    tie.close
-    (tie.spec
-    Inv-sensors
-    μ-sensors
-    Inv-names
-    μ-names
-    held-requires
-    no-places-requires
-    names-holds
-    sub-first-len
-    part-first-len-start
-    part-first-len-end
-    first-len-requires
-    add-to
-    sensors-holds
-    mul-sensor
-    element-copy-out-sensor
-    sub-has-name
-    part-has-name-start
-    part-has-name-end
-    has-name-requires
-    add-j
-    sensors-less
-    sensors-again
-    no-places-requires-2
-    with-place-requires
-    add-from
-    names-less
-    names-again
-    returns
-    returns-2)
+    tie.close (tie.spec Inv-sensors μ-sensors Inv-names μ-names (λ c κs. search needs) (λ c κs. search needs) names-holds (λ c. search needs) (λ c. search needs) (λ c. search needs) (λ c κs. search needs) add-to sensors-holds (λ c. search needs) (λ c. search needs) sub-has-name part-has-name-start part-has-name-end (λ c κs. search needs) (λ c. search needs) sensors-less sensors-again (λ c κs. search needs) with-place-requires add-from names-less names-again returns returns-2)

@@ -17,20 +17,8 @@ array-share-prefix-places c = let e : length (c .before .before .before .args .l
 slice-aggregate-is-among : tie.Need-slice-aggregate-is-among
 slice-aggregate-is-among c = places-count (c .before .before .before .before .pre .0)
 
-cast-is-among : tie.Need-cast-is-among
-cast-is-among c = search needs
-
-is-among-requires : tie.Need-is-among-requires
-is-among-requires c κs = search needs
-
-no-places-requires : tie.Need-no-places-requires
-no-places-requires c κs = search needs
-
 returns-2 : tie.Need-returns-2
 returns-2 c = c .no-places .ensures ∙ with-twice (c .before .before .before .before .before .before .before .args .list) (c .before .before .before .before .before .before .before .args .j) (c .before .before .before .before .before .if1 .left) (sym (c .before .before .is-among .ensures) ∙ c .before .if2 .taken)
-
-cast-places : tie.Need-cast-places
-cast-places c = search needs
 
 room : (c : tie.Else2) → c .before .before .before .before .before .before .args .list .count < 32
 room c = places-room (c .before .before .before .before .before .before .pre .0) (c .before .before .before .before .before .before .pre .1) (sym (c .before .is-among .ensures) ∙ c .if2 .left)
@@ -46,16 +34,4 @@ returns-3 c = placed (c .before .before .before .before .before .before .pre .0)
 
 pub with-place-spec : {M : Type 1} → statement M
 with-place-spec =
-    tie.close
-    (tie.spec
-    returns
-    array-share-prefix-places
-    slice-aggregate-is-among
-    cast-is-among
-    is-among-requires
-    no-places-requires
-    returns-2
-    cast-places
-    array-write-places
-    add-t12
-    returns-3)
+    tie.close (tie.spec returns array-share-prefix-places slice-aggregate-is-among (λ c. search needs) (λ c κs. search needs) (λ c κs. search needs) returns-2 (λ c. search needs) array-write-places add-t12 returns-3)

@@ -14,15 +14,6 @@ use Rattle.output.proofs.put_byte.Tie as tie
 full : (xs : List ℕ) (at b : ℕ) → length xs ≤ at → output xs (length xs) ≡ put (output xs at) b
 full xs at b h = let e : min (at + 1) (length xs) ≡ length xs = omega arith in rw (set-out xs at b, e)
 
-slice-write-out : tie.Need-slice-write-out
-slice-write-out c = search needs
-
-add-result : tie.Need-add-result
-add-result c = search needs
-
-same-length : tie.Need-same-length
-same-length c = search needs
-
 returns : tie.Need-returns
 returns c = record { is = ap (output _) (omega arith) }
 
@@ -31,4 +22,4 @@ returns-2 c =
     record { is = full (c .before .args .out .now) (c .before .args .at) (c .before .args .b) (omega arith) }
 
 pub put-byte-spec : {M : Type 1} → statement M
-put-byte-spec = tie.close (tie.spec slice-write-out add-result same-length returns returns-2)
+put-byte-spec = tie.close (tie.spec (λ c. search needs) (λ c. search needs) (λ c. search needs) returns returns-2)

@@ -1,7 +1,7 @@
 -- The calls' facts in a chain.
 use borrow.Author.Needs.{needs}
 use mathlib.Core.List.{[], _∷_}
-use Rattle.output.proofs.OutputLaws.{then, same, said}
+use Rattle.output.proofs.OutputLaws.{then, said}
 use Rattle.replies.specs.Asking.{asking}
 use Rattle.replies.proofs.LineLaws.{ok-line}
 use Rattle.replies.proofs.count_line.Statement.{statement}
@@ -14,8 +14,5 @@ returns c =
     let c2 = c1 .before .before .before .before in
     said (then (c2 .put-ok .ensures) (then (c1 .put-arg-decimal .ensures) (c0 .put-byte .ensures))) (ok-line (asking _ _) (_ ∷ []) (10 ∷ []))
 
-same-length : tie.Need-same-length
-same-length c = same (returns c)
-
 pub count-line-spec : {M : Type 1} → statement M
-count-line-spec = tie.close (tie.spec (λ c κs. search needs) (λ c κs. search needs) (λ c κs. search needs) same-length returns)
+count-line-spec = tie.close (tie.spec (λ c κs. search needs) (λ c κs. search needs) (λ c κs. search needs) (λ c. search needs) returns)

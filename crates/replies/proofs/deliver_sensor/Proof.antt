@@ -6,14 +6,10 @@ use Rattle.replies.proofs.deliver_sensor.Statement.{statement}
 use Rattle.replies.proofs.deliver_sensor.Tie as tie
 
 returns : tie.Need-returns
-returns c =
-    let c0 = c .before .before in
-    let c1 = c0 .before .before .before .before in
-    let c2 = c1 .before .before in
-    one (delivered (c2 .before .before .args .out .now) _ _ _ _ _ _ _ (c2 .line-start .result) (c2 .line-start .ensures) (c1 .sensor-line .ensures) (c0 .put-header .ensures))
+returns c = search (one, delivered, needs)
 
 same-length : tie.Need-same-length
-same-length c = kept (returns c)
+same-length c = search needs
 
 add-result : tie.Need-add-result
 add-result c = let h = within (returns c) in omega arith

@@ -5,21 +5,9 @@ use Rattle.machine.specs.Messages.{typeArgs}
 use Rattle.replies.proofs.put_args_of_type.Statement.{statement}
 use Rattle.replies.proofs.put_args_of_type.Tie as tie
 
-put-args-options-requires : tie.Need-put-args-options-requires
-put-args-options-requires c κs = search needs
-
-same-length : tie.Need-same-length
-same-length c = search needs
-
 returns : tie.Need-returns
 unfolding typeArgs
 returns c = rw (eq-eqb _ _ (c .before .before .before .before .if1 .taken)) (c .before .before .put-args-options .ensures)
-
-put-args-limits-requires : tie.Need-put-args-limits-requires
-put-args-limits-requires c κs = search needs
-
-same-length-2 : tie.Need-same-length-2
-same-length-2 c = search needs
 
 returns-2 : tie.Need-returns-2
 unfolding typeArgs
@@ -27,11 +15,4 @@ returns-2 c = rw (ne-eqb _ _ (c .before .before .before .before .if1 .left)) (c 
 
 pub put-args-of-type-spec : {M : Type 1} → statement M
 put-args-of-type-spec =
-    tie.close
-    (tie.spec
-    put-args-options-requires
-    same-length
-    returns
-    put-args-limits-requires
-    same-length-2
-    returns-2)
+    tie.close (tie.spec (λ c κs. search needs) (λ c. search needs) returns (λ c κs. search needs) (λ c. search needs) returns-2)

@@ -5,7 +5,7 @@ use mathlib.Core.Path.{_≡_}
 use mathlib.Core.List.{[]}
 use borrow.Author.Needs.{needs}
 use Rattle.output.specs.Output.{output, Wrote}
-use Rattle.output.proofs.OutputLaws.{blank, same}
+use Rattle.output.proofs.OutputLaws.{same}
 use Rattle.message.specs.Message.{argsText}
 use Rattle.machine.specs.Places.{tabulate}
 use Rattle.machine.specs.Sheet.{optionOf}
@@ -19,37 +19,17 @@ Inv-loop out₀ at sensor count p₀ k₀ out p k = (k ≤ sensor .«option_coun
 abbrev μ-loop : tie.MeasureT-loop
 μ-loop out₀ at sensor count p₀ k₀ out p k = count - k
 
-cast-count : tie.Need-cast-count Inv-loop μ-loop
-cast-count c = search needs
-
 loop-holds : tie.Need-loop-holds Inv-loop μ-loop
 unfolding tabulate
-loop-holds c = (omega arith, blank)
-
-option-at-requires : tie.Need-option-at-requires Inv-loop μ-loop
-option-at-requires c κs = search needs
-
-slice-aggregate-put-arg-prefix : tie.Need-slice-aggregate-put-arg-prefix Inv-loop μ-loop
-slice-aggregate-put-arg-prefix c = search needs
-
-cast-put-arg-prefix : tie.Need-cast-put-arg-prefix Inv-loop μ-loop
-cast-put-arg-prefix c = search needs
-
-put-arg-prefix-requires : tie.Need-put-arg-prefix-requires Inv-loop μ-loop
-put-arg-prefix-requires c κs = search needs
-
-add-k : tie.Need-add-k Inv-loop μ-loop
-add-k c = search needs
-
-loop-less : tie.Need-loop-less Inv-loop μ-loop
-loop-less c = search needs
+loop-holds c = search needs
 
 loop-again : tie.Need-loop-again Inv-loop μ-loop
 loop-again c =
-    (omega arith, next-arg (optionOf (c .before .before .before .before .before .before .before .before .before .before .before .before .args .sensor)) _ (c .before .before .before .before .before .before .before .before .before .loop .inv .1) (rw (c .before .before .before .before .before .before .before .option-at .ensures) at (c .before .before .put-arg-prefix .ensures)))
-
-same-length : tie.Need-same-length Inv-loop μ-loop
-same-length c = same (c .before .loop .inv .1)
+    let c1 = c .before .before in
+    let c2 = c1 .before .before .before .before .before in
+    let c3 = c2 .before .before in
+    let c4 = c3 .before .before .before in
+    (omega arith, next-arg (optionOf (c4 .args .sensor)) _ (c3 .loop .inv .1) (rw (c2 .option-at .ensures) at (c1 .put-arg-prefix .ensures)))
 
 returns : tie.Need-returns Inv-loop μ-loop
 returns c =
@@ -58,18 +38,4 @@ returns c =
 
 pub put-args-options-spec : {M : Type 1} → statement M
 put-args-options-spec =
-    tie.close
-    (tie.spec
-    Inv-loop
-    μ-loop
-    cast-count
-    loop-holds
-    option-at-requires
-    slice-aggregate-put-arg-prefix
-    cast-put-arg-prefix
-    put-arg-prefix-requires
-    add-k
-    loop-less
-    loop-again
-    same-length
-    returns)
+    tie.close (tie.spec Inv-loop μ-loop (λ c. search needs) loop-holds (λ c κs. search needs) (λ c. search needs) (λ c. search needs) (λ c κs. search needs) (λ c. search needs) (λ c. search needs) loop-again (λ c. same (c .before .loop .inv .1)) returns)

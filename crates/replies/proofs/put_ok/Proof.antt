@@ -2,7 +2,7 @@
 use borrow.Author.Needs.{needs}
 use mathlib.Core.List.{append-nil}
 use Rattle.message.specs.Message.{writeTo}
-use Rattle.output.proofs.OutputLaws.{then, same}
+use Rattle.output.proofs.OutputLaws.{then}
 use Rattle.replies.proofs.put_ok.Statement.{statement}
 use Rattle.replies.proofs.put_ok.Tie as tie
 
@@ -15,8 +15,5 @@ returns c =
     let c3 = c2 .before .before .before .before in
     rw append-nil (then (c3 .put-byte .ensures) (then (c2 .put-bytes .ensures) (then (c1 .put-id .ensures) (c0 .put-arg .ensures))))
 
-same-length : tie.Need-same-length
-same-length c = same (returns c)
-
 pub put-ok-spec : {M : Type 1} → statement M
-put-ok-spec = tie.close (tie.spec (λ c κs. search needs) (λ c κs. search needs) (λ c κs. search needs) (λ c. search needs) (λ c κs. search needs) same-length returns)
+put-ok-spec = tie.close (tie.spec (λ c κs. search needs) (λ c κs. search needs) (λ c κs. search needs) (λ c. search needs) (λ c κs. search needs) (λ c. search needs) returns)

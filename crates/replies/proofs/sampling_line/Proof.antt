@@ -1,7 +1,7 @@
 -- The calls' facts in a chain.
 use borrow.Author.Needs.{needs}
 use mathlib.Core.List.{[], _∷_}
-use Rattle.output.proofs.OutputLaws.{then, same, said}
+use Rattle.output.proofs.OutputLaws.{then, said}
 use Rattle.machine.specs.Messages.{strategyText, strategyKind, parameterTexts, samplingReply}
 use Rattle.replies.specs.Asking.{asking}
 use Rattle.replies.proofs.LineLaws.{ok-line, args-ended}
@@ -19,8 +19,5 @@ returns c =
     said (then (c3 .put-ok .ensures) (then (c2 .put-arg .ensures) (args-ended (strategyText (strategyKind (s .strategy)) ∷ parameterTexts (s .sensor) (s .strategy)) (10 ∷ []) (c1 .put-args-strategy .ensures) (c0 .put-byte .ensures))))
     (ok-line (asking _ _) (_ ∷ _ ∷ parameterTexts (s .sensor) (s .strategy)) (10 ∷ []))
 
-same-length : tie.Need-same-length
-same-length c = same (returns c)
-
 pub sampling-line-spec : {M : Type 1} → statement M
-sampling-line-spec = tie.close (tie.spec (λ c κs. search needs) (λ c κs. search needs) (λ c κs. search needs) (λ c κs. search needs) same-length returns)
+sampling-line-spec = tie.close (tie.spec (λ c κs. search needs) (λ c κs. search needs) (λ c κs. search needs) (λ c κs. search needs) (λ c. search needs) returns)

@@ -19,7 +19,7 @@ returns c =
     let c5 = c4 .before .before .before .before .before .before in
     let c6 = c5 .before .before .before .before in
     let c7 = c6 .before .before .before .before in
-    then (c7 .put-bytes .ensures) (then (c6 .put-id .ensures) (then (c5 .put-arg-name .ensures) (then (c4 .put-arg-prefix .ensures) (then (c3 .put-arg-prefix2 .ensures) (then (c2 .put-arg-type .ensures) (args-ended (typeArgs (c7 .before .before .before .before .before .before .args .sensor)) (10 ∷ []) (c1 .put-args-of-type .ensures) (c0 .put-byte .ensures)))))))
+    then (c7 .put-bytes .ensures) (then (c6 .put-id .ensures) (then (c5 .put-arg-name .ensures) (then (c4 .put-arg-prefix .ensures) (then (c3 .put-arg-prefix2 .ensures) (then (c2 .put-arg-type .ensures) (args-ended (typeArgs _) (10 ∷ []) (c1 .put-args-of-type .ensures) (c0 .put-byte .ensures)))))))
 
 slice-aggregate-put-arg-prefix-2 : tie.Need-slice-aggregate-put-arg-prefix-2
 slice-aggregate-put-arg-prefix-2 c = let g = c .before .before .before .before .before .before .before .before .before .before .before .before .before .before .before .before .before .before .before .before .before .before .before .before .good in search needs

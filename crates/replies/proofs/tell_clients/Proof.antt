@@ -14,45 +14,9 @@ Inv-loop out₀ client id clients told₀ c₀ out told c = Telling client id cl
 abbrev μ-loop : tie.MeasureT-loop
 μ-loop out₀ client id clients told₀ c₀ out told c = 8 - c
 
-loop-holds : tie.Need-loop-holds Inv-loop μ-loop
-loop-holds c = telling _ _ _ _
-
-mul-k : tie.Need-mul-k Inv-loop μ-loop
-mul-k c = search needs
-
-array-copy-out-k : tie.Need-array-copy-out-k Inv-loop μ-loop
-array-copy-out-k c = search needs
-
 tell-client-requires : tie.Need-tell-client-requires Inv-loop μ-loop
 tell-client-requires c κs = let h = few (c .before .before .before .loop .inv) in search needs
 
-add-c : tie.Need-add-c Inv-loop μ-loop
-add-c c = search needs
-
-loop-less : tie.Need-loop-less Inv-loop μ-loop
-loop-less c = search needs
-
-loop-again : tie.Need-loop-again Inv-loop μ-loop
-loop-again c = telling-on (c .before .before .before .before .before .before .loop .inv) (omega arith) (c .before .before .tell-client .ensures .0) (c .before .before .tell-client .ensures .1)
-
-same-length : tie.Need-same-length Inv-loop μ-loop
-same-length c = kept (c .before .loop .inv .sent)
-
-returns : tie.Need-returns Inv-loop μ-loop
-returns c = told (c .before .loop .inv) (omega arith)
-
 pub tell-clients-spec : {M : Type 1} → statement M
 tell-clients-spec =
-    tie.close
-    (tie.spec
-    Inv-loop
-    μ-loop
-    loop-holds
-    mul-k
-    array-copy-out-k
-    tell-client-requires
-    add-c
-    loop-less
-    loop-again
-    same-length
-    returns)
+    tie.close (tie.spec Inv-loop μ-loop (λ c. telling _ _ _ _) (λ c. search needs) (λ c. search needs) tell-client-requires (λ c. search needs) (λ c. search needs) (λ c. search (telling-on, needs)) (λ c. kept (c .before .loop .inv .sent)) (λ c. told (c .before .loop .inv) (omega arith)))

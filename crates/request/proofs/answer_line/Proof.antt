@@ -11,32 +11,11 @@ use Rattle.request.proofs.EffectLaws.{read-effect, malformed-effect, in
 use Rattle.request.proofs.answer_line.Statement.{statement}
 use Rattle.request.proofs.answer_line.Tie as tie
 
-read-requires : tie.Need-read-requires
-read-requires c κs = search needs
-
-enum-known-head : tie.Need-enum-known-head
-enum-known-head c = search needs
-
-enum-told : tie.Need-enum-told
-enum-told c = search needs
-
-slice-aggregate-complain : tie.Need-slice-aggregate-complain
-slice-aggregate-complain c = search needs
-
-complain-requires : tie.Need-complain-requires
-complain-requires c κs = search needs
-
-same-length : tie.Need-same-length
-same-length c = search needs
-
 returns : tie.Need-returns
 returns c =
     let s = c .before .before .before .before .before .before .before .before .before .before in
     let none = malformed-is (parse (s .args .line .now)) (sym (c .before .before .before .before .before .before .before .read .ensures) ∙ c .before .before .before .before .before .enum-told .given .1) in
     as-given (ap (λ (p : Parse). lineEffect (s .args .state) (s .args .client) (askedBy p)) none ∙ malformed-effect (s .args .state) (s .args .client)) (c .before .before .complain .ensures)
-
-answered-requires : tie.Need-answered-requires
-answered-requires c κs = search needs
 
 returns-2 : tie.Need-returns-2
 returns-2 c =
@@ -44,15 +23,6 @@ returns-2 c =
     let read = sym (c .before .before .before .before .before .before .read .ensures) ∙ c .before .before .before .before .head .given .1 in
     let kind = sym (kind-is (s .args .line .now) _ read) in
     as-given (read-effect (s .args .state) (s .args .client) (s .args .line .now) read ∙ inform-effect (s .args .state) (s .args .client) (messageOf (s .args .line .now)) (kind ∙ c .before .if1 .taken)) (nothing-given (s .args .state) (s .args .out .now) (c .answered .ensures))
-
-slice-aggregate-complain-2 : tie.Need-slice-aggregate-complain-2
-slice-aggregate-complain-2 c = search needs
-
-complain-requires-2 : tie.Need-complain-requires-2
-complain-requires-2 c κs = search needs
-
-same-length-2 : tie.Need-same-length-2
-same-length-2 c = search needs
 
 returns-3 : tie.Need-returns-3
 returns-3 c =
@@ -67,9 +37,6 @@ answer-request-requires c κs =
     let read = sym (c .before .before .before .before .before .before .before .before .read .ensures) ∙ c .before .before .before .before .before .before .head .given .1 in
     record { in-range = s .pre .0; client = s .pre .1; read = read }
 
-same-length-3 : tie.Need-same-length-3
-same-length-3 c = search needs
-
 returns-4 : tie.Need-returns-4
 returns-4 c =
     let s = c .before .before .before .before .before .before .before .before .before .before .before .before .before .before in
@@ -79,21 +46,4 @@ returns-4 c =
 
 pub answer-line-spec : {M : Type 1} → statement M
 answer-line-spec =
-    tie.close
-    (tie.spec
-    read-requires
-    enum-known-head
-    enum-told
-    slice-aggregate-complain
-    complain-requires
-    same-length
-    returns
-    answered-requires
-    returns-2
-    slice-aggregate-complain-2
-    complain-requires-2
-    same-length-2
-    returns-3
-    answer-request-requires
-    same-length-3
-    returns-4)
+    tie.close (tie.spec (λ c κs. search needs) (λ c. search needs) (λ c. search needs) (λ c. search needs) (λ c κs. search needs) (λ c. search needs) returns (λ c κs. search needs) returns-2 (λ c. search needs) (λ c κs. search needs) (λ c. search needs) returns-3 answer-request-requires (λ c. search needs) returns-4)

@@ -20,24 +20,6 @@ looked-up c =
     let s = c .before .before .before .before in
     c .request-named .ensures ∙ ap (λ (n : List ℕ). found (requestNamed n)) (c .before .name .ensures ∙ name-is (s .args .line .now) (s .args .head) (s .pre .read))
 
-name-requires : tie.Need-name-requires
-name-requires c κs = search needs
-
-request-named-requires : tie.Need-request-named-requires
-request-named-requires c κs = search needs
-
-enum-known-request : tie.Need-enum-known-request
-enum-known-request c = search needs
-
-enum-told : tie.Need-enum-told
-enum-told c = search needs
-
-refuse-requires : tie.Need-refuse-requires
-refuse-requires c κs = search needs
-
-same-length : tie.Need-same-length
-same-length c = search needs
-
 returns : tie.Need-returns
 returns c =
     let s = c .before .before .before .before .before .before .before .before .before .before in
@@ -53,9 +35,6 @@ refuse-requires-2 c κs =
     let row = c .before .before .request-row .ensures in
     (s .pre .read, rw row (request-number (s .args .state .sheet) _ (messageOf (s .args .line .now)) (λ z. c .before .if1 .taken (row ∙ z))))
 
-same-length-2 : tie.Need-same-length-2
-same-length-2 c = search needs
-
 returns-2 : tie.Need-returns-2
 returns-2 c =
     let s = c .before .before .before .before .before .before .before .before .before .before .before .before .before .before in
@@ -67,9 +46,6 @@ carry-out-requires c κs =
     let s = c .before .before .before .before .before .before .before .before .before .before .before in
     record { heard = s .pre; fits = arguments-fit (s .args .state .sheet) _ (messageOf (s .args .line .now)) (sym (c .before .before .request-row .ensures) ∙ c .before .if1 .left) }
 
-same-length-3 : tie.Need-same-length-3
-same-length-3 c = search needs
-
 returns-3 : tie.Need-returns-3
 returns-3 c =
     let s = c .before .before .before .before .before .before .before .before .before .before .before .before .before .before in
@@ -78,19 +54,4 @@ returns-3 c =
 
 pub answer-request-spec : {M : Type 1} → statement M
 answer-request-spec =
-    tie.close
-    (tie.spec
-    name-requires
-    request-named-requires
-    enum-known-request
-    enum-told
-    refuse-requires
-    same-length
-    returns
-    request-row-requires
-    refuse-requires-2
-    same-length-2
-    returns-2
-    carry-out-requires
-    same-length-3
-    returns-3)
+    tie.close (tie.spec (λ c κs. search needs) (λ c κs. search needs) (λ c. search needs) (λ c. search needs) (λ c κs. search needs) (λ c. search needs) returns request-row-requires refuse-requires-2 (λ c. search needs) returns-2 carry-out-requires (λ c. search needs) returns-3)

@@ -4,28 +4,12 @@ use borrow.Author.Needs.{needs}
 use Rattle.request.proofs.argument.Statement.{statement}
 use Rattle.request.proofs.argument.Tie as tie
 
-argument-requires : tie.Need-argument-requires
-argument-requires c κs = search needs
-
-enum-known-n : tie.Need-enum-known-n
-enum-known-n c = search needs
-
-enum-told : tie.Need-enum-told
-enum-told c = search needs
-
-same-length : tie.Need-same-length
-same-length c = search needs
-
 returns : tie.Need-returns
 returns c = copied-never (c .before .before .before .before .before .before .before .before .args .line .now) (c .before .before .before .before .before .before .before .before .args .k) (c .before .before .before .before .before .before .before .before .args .into .now) (c .before .before .before .before .before .before .before .before .pre) (c .before .before .before .before .argument .ensures) (c .enum-told .given .1)
-
-same-length-2 : tie.Need-same-length-2
-same-length-2 c = search needs
 
 returns-2 : tie.Need-returns-2
 returns-2 c = copied-argument (c .before .before .before .before .before .before .before .before .before .args .line .now) (c .before .before .before .before .before .before .before .before .before .args .k) (c .before .before .before .before .before .before .before .before .before .args .into .now) (c .before .before .before .before .before .before .before .before .before .pre) (c .before .before .before .before .before .argument .ensures) (c .before .n .given .1)
 
 pub argument-spec : {M : Type 1} → statement M
 argument-spec =
-    tie.close
-    (tie.spec argument-requires enum-known-n enum-told same-length returns same-length-2 returns-2)
+    tie.close (tie.spec (λ c κs. search needs) (λ c. search needs) (λ c. search needs) (λ c. search needs) returns (λ c. search needs) returns-2)

@@ -4,51 +4,6 @@ use borrow.Author.Needs.{needs}
 use Rattle.request.proofs.arguments_row.Statement.{statement}
 use Rattle.request.proofs.arguments_row.Tie as tie
 
-enum-told : tie.Need-enum-told
-enum-told c = search needs
-
-enum-told-2 : tie.Need-enum-told-2
-enum-told-2 c = search needs
-
-enum-told-3 : tie.Need-enum-told-3
-enum-told-3 c = search needs
-
-help-row-requires : tie.Need-help-row-requires
-help-row-requires c κs = search needs
-
-enum-told-4 : tie.Need-enum-told-4
-enum-told-4 c = search needs
-
-level-row-requires : tie.Need-level-row-requires
-level-row-requires c κs = search needs
-
-enum-told-5 : tie.Need-enum-told-5
-enum-told-5 c = search needs
-
-enum-told-6 : tie.Need-enum-told-6
-enum-told-6 c = search needs
-
-told-row-requires : tie.Need-told-row-requires
-told-row-requires c κs = search needs
-
-enum-told-7 : tie.Need-enum-told-7
-enum-told-7 c = search needs
-
-sampling-row-requires : tie.Need-sampling-row-requires
-sampling-row-requires c κs = search needs
-
-enum-told-8 : tie.Need-enum-told-8
-enum-told-8 c = search needs
-
-told-row-requires-2 : tie.Need-told-row-requires-2
-told-row-requires-2 c κs = search needs
-
-enum-told-9 : tie.Need-enum-told-9
-enum-told-9 c = search needs
-
-enum-told-10 : tie.Need-enum-told-10
-enum-told-10 c = search needs
-
 returns : tie.Need-returns
 unfolding argumentsDeclined
 returns c = rw (c .enum-told .given .1)
@@ -91,30 +46,4 @@ returns-10 c = rw (c .enum-told10 .given .1)
 
 pub arguments-row-spec : {M : Type 1} → statement M
 arguments-row-spec =
-    tie.close
-    (tie.spec
-    enum-told
-    enum-told-2
-    enum-told-3
-    help-row-requires
-    enum-told-4
-    level-row-requires
-    enum-told-5
-    enum-told-6
-    told-row-requires
-    enum-told-7
-    sampling-row-requires
-    enum-told-8
-    told-row-requires-2
-    enum-told-9
-    enum-told-10
-    returns
-    returns-2
-    returns-3
-    returns-4
-    returns-5
-    returns-6
-    returns-7
-    returns-8
-    returns-9
-    returns-10)
+    tie.close (tie.spec (λ c. search needs) (λ c. search needs) (λ c. search needs) (λ c κs. search needs) (λ c. search needs) (λ c κs. search needs) (λ c. search needs) (λ c. search needs) (λ c κs. search needs) (λ c. search needs) (λ c κs. search needs) (λ c. search needs) (λ c κs. search needs) (λ c. search needs) (λ c. search needs) returns returns-2 returns-3 returns-4 returns-5 returns-6 returns-7 returns-8 returns-9 returns-10)

@@ -8,18 +8,6 @@ use Rattle.request.proofs.TellLaws.{tells}
 use Rattle.request.proofs.client_list.Statement.{statement}
 use Rattle.request.proofs.client_list.Tie as tie
 
-name-requires : tie.Need-name-requires
-name-requires c κs = search needs
-
-client-list-requires : tie.Need-client-list-requires
-client-list-requires c κs = search needs
-
-answered-requires : tie.Need-answered-requires
-answered-requires c κs = search needs
-
-same-length : tie.Need-same-length
-same-length c = search needs
-
 returns : tie.Need-returns
 unfolding answer addresses
 returns c =
@@ -28,4 +16,4 @@ returns c =
 
 pub client-list-spec : {M : Type 1} → statement M
 client-list-spec =
-    tie.close (tie.spec name-requires client-list-requires answered-requires same-length returns)
+    tie.close (tie.spec (λ c κs. search needs) (λ c κs. search needs) (λ c κs. search needs) (λ c. search needs) returns)

@@ -9,21 +9,6 @@ use Rattle.request.proofs.TellLaws.{replies}
 use Rattle.request.proofs.log_level.Statement.{statement}
 use Rattle.request.proofs.log_level.Tie as tie
 
-level-asked-requires : tie.Need-level-asked-requires
-level-asked-requires c κs = search needs
-
-name-requires : tie.Need-name-requires
-name-requires c κs = search needs
-
-deliver-level-requires : tie.Need-deliver-level-requires
-deliver-level-requires c κs = search needs
-
-answered-requires : tie.Need-answered-requires
-answered-requires c κs = search needs
-
-same-length : tie.Need-same-length
-same-length c = search needs
-
 returns : tie.Need-returns
 unfolding answer
 returns c =
@@ -32,11 +17,4 @@ returns c =
 
 pub log-level-spec : {M : Type 1} → statement M
 log-level-spec =
-    tie.close
-    (tie.spec
-    level-asked-requires
-    name-requires
-    deliver-level-requires
-    answered-requires
-    same-length
-    returns)
+    tie.close (tie.spec (λ c κs. search needs) (λ c κs. search needs) (λ c κs. search needs) (λ c κs. search needs) (λ c. search needs) returns)

@@ -7,15 +7,6 @@ use borrow.Author.Needs.{needs}
 use Rattle.request.proofs.refuse.Statement.{statement}
 use Rattle.request.proofs.refuse.Tie as tie
 
-name-requires : tie.Need-name-requires
-name-requires c κs = search needs
-
-deliver-refusal-requires : tie.Need-deliver-refusal-requires
-deliver-refusal-requires c κs = search needs
-
-same-length : tie.Need-same-length
-same-length c = search needs
-
 returns : tie.Need-returns
 returns c =
     let start = c .before .before .before .before .before .before .before in
@@ -27,4 +18,4 @@ returns c =
     }
 
 pub refuse-spec : {M : Type 1} → statement M
-refuse-spec = tie.close (tie.spec name-requires deliver-refusal-requires same-length returns)
+refuse-spec = tie.close (tie.spec (λ c κs. search needs) (λ c κs. search needs) (λ c. search needs) returns)

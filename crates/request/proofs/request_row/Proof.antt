@@ -8,18 +8,12 @@ use borrow.Author.Needs.{needs}
 use Rattle.request.proofs.request_row.Statement.{statement}
 use Rattle.request.proofs.request_row.Tie as tie
 
-count-fits-requires : tie.Need-count-fits-requires
-count-fits-requires c κs = search needs
-
 returns : tie.Need-returns
 returns c = count-declined (c .before .before .before .args .sheet) (c .before .before .before .args .request) (messageOf (c .before .before .before .args .line .now)) (c .before .count-fits .ensures ∙ ap (countFits (c .before .before .before .args .request)) (count-is (c .before .before .before .args .line .now) (c .before .before .before .args .head) (c .before .before .before .pre .0))) (c .if1 .taken)
-
-arguments-row-requires : tie.Need-arguments-row-requires
-arguments-row-requires c κs = search needs
 
 returns-2 : tie.Need-returns-2
 returns-2 c = c .arguments-row .ensures ∙ count-fitting (c .before .before .before .before .args .sheet) (c .before .before .before .before .args .request) (messageOf (c .before .before .before .before .args .line .now)) (c .before .before .count-fits .ensures ∙ ap (countFits (c .before .before .before .before .args .request)) (count-is (c .before .before .before .before .args .line .now) (c .before .before .before .before .args .head) (c .before .before .before .before .pre .0))) (c .before .if1 .left)
 
 pub request-row-spec : {M : Type 1} → statement M
 request-row-spec =
-    tie.close (tie.spec count-fits-requires returns arguments-row-requires returns-2)
+    tie.close (tie.spec (λ c κs. search needs) returns (λ c κs. search needs) returns-2)

@@ -27,32 +27,11 @@ passed c =
     let s = start c in
     passes (s .args .state) (s .args .client) (s .args .line .now) (s .args .out .now) (c .before .in-range .ensures) (ap not (c .before .before .before .is-connected .ensures)) (c .before .before .client-rows .ensures) (c .rows .ensures)
 
-is-connected-requires : tie.Need-is-connected-requires
-is-connected-requires c κs = search needs
-
-client-rows-requires : tie.Need-client-rows-requires
-client-rows-requires c κs = search needs
-
-in-range-requires : tie.Need-in-range-requires
-in-range-requires c κs = search needs
-
-rows-requires : tie.Need-rows-requires
-rows-requires c κs = search needs
-
-silent-requires : tie.Need-silent-requires
-silent-requires c κs = search needs
-
 returns : tie.Need-returns
 returns c =
     let s = c .before .before .before .before .before .before .before .before .before in
     let d = declines (s .args .state) (s .args .client) (s .args .line .now) (s .args .out .now) (c .before .before .before .in-range .ensures) (ap not (c .before .before .before .before .before .is-connected .ensures)) (c .before .before .before .before .client-rows .ensures) (c .before .before .rows .ensures) (c .before .if1 .taken) in
     refused (s .args .state) (asks s) (s .args .out .now) (d .0) (c .before .if1 .taken) (d .1) (c .silent .ensures)
-
-is-blank-requires : tie.Need-is-blank-requires
-is-blank-requires c κs = search needs
-
-answered-requires : tie.Need-answered-requires
-answered-requires c κs = search needs
 
 returns-2 : tie.Need-returns-2
 returns-2 c =
@@ -67,9 +46,6 @@ cast-answer-line c = let p = passed (c .before .before .before) (c .before .befo
 answer-line-requires : tie.Need-answer-line-requires
 answer-line-requires c κs = let p = passed (c .before .before .before .before) (c .before .before .before .if1 .left) in (p .1, p .3)
 
-same-length : tie.Need-same-length
-same-length c = search needs
-
 returns-3 : tie.Need-returns-3
 returns-3 c =
     let s = c .before .before .before .before .before .before .before .before .before .before .before .before .before .before in
@@ -79,18 +55,4 @@ returns-3 c =
 
 pub respond-spec : {M : Type 1} → statement M
 respond-spec =
-    tie.close
-    (tie.spec
-    is-connected-requires
-    client-rows-requires
-    in-range-requires
-    rows-requires
-    silent-requires
-    returns
-    is-blank-requires
-    answered-requires
-    returns-2
-    cast-answer-line
-    answer-line-requires
-    same-length
-    returns-3)
+    tie.close (tie.spec (λ c κs. search needs) (λ c κs. search needs) (λ c κs. search needs) (λ c κs. search needs) (λ c κs. search needs) returns (λ c κs. search needs) (λ c κs. search needs) returns-2 cast-answer-line answer-line-requires (λ c. search needs) returns-3)

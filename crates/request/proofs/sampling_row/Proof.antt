@@ -11,14 +11,8 @@ use borrow.Author.Needs.{needs}
 use Rattle.request.proofs.sampling_row.Statement.{statement}
 use Rattle.request.proofs.sampling_row.Tie as tie
 
-sensors-listed-requires : tie.Need-sensors-listed-requires
-sensors-listed-requires c κs = search needs
-
 returns : tie.Need-returns
 returns c = sampling-first (c .before .before .before .before .args .line .now) (c .before .before .before .before .args .head) (c .before .before .before .before .pre .0) (c .before .before .before .before .args .sheet) (c .before .before .before .before .pre .1) (c .before .before .sensors-listed .ensures) (c .if1 .taken)
-
-alone-row-requires : tie.Need-alone-row-requires
-alone-row-requires c κs = search needs
 
 returns-2 : tie.Need-returns-2
 returns-2 c = sampling-alone (c .before .before .before .before .before .before .before .before .args .line .now) (c .before .before .before .before .before .before .before .before .args .head) (c .before .before .before .before .before .before .before .before .pre .0) (c .before .before .before .before .before .before .before .before .args .sheet) (c .before .before .before .before .before .before .before .before .pre .1) (c .before .before .before .before .before .before .sensors-listed .ensures) (c .before .before .before .before .if1 .left) (c .before .if2 .taken) (c .alone-row .ensures)
@@ -29,21 +23,9 @@ array-share-prefix-places c = let e : length (c .before .before .before .before 
 slice-aggregate-setting-asked : tie.Need-slice-aggregate-setting-asked
 slice-aggregate-setting-asked c = places-many (c .before .before .before .before .before .before .before .before .args .line .now) (c .before .before .before .before .before .before .before .before .args .head) (c .before .before .before .before .before .before .before .before .pre .0) (c .before .before .before .before .before .before .before .before .args .sheet) (c .before .before .before .before .before .before .before .before .pre .1) (c .before .before .before .before .before .before .sensors-listed .ensures) (c .before .before .before .before .if1 .left)
 
-setting-asked-requires : tie.Need-setting-asked-requires
-setting-asked-requires c κs = search needs
-
 returns-3 : tie.Need-returns-3
 returns-3 c = sampling-set (c .before .before .before .before .before .before .before .before .before .args .line .now) (c .before .before .before .before .before .before .before .before .before .args .head) (c .before .before .before .before .before .before .before .before .before .pre .0) (c .before .before .before .before .before .before .before .before .before .args .sheet) (c .before .before .before .before .before .before .before .before .before .pre .1) (c .before .before .before .before .before .before .before .sensors-listed .ensures) (c .before .before .before .before .before .if1 .left) (c .before .before .if2 .left) (c .setting-asked .ensures)
 
 pub sampling-row-spec : {M : Type 1} → statement M
 sampling-row-spec =
-    tie.close
-    (tie.spec
-    sensors-listed-requires
-    returns
-    alone-row-requires
-    returns-2
-    array-share-prefix-places
-    slice-aggregate-setting-asked
-    setting-asked-requires
-    returns-3)
+    tie.close (tie.spec (λ c κs. search needs) returns (λ c κs. search needs) returns-2 array-share-prefix-places slice-aggregate-setting-asked (λ c κs. search needs) returns-3)

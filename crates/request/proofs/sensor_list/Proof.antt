@@ -25,18 +25,6 @@ slice-aggregate-tell-sensors c = list-long (asked (c .before .before .before))
 tell-sensors-requires : tie.Need-tell-sensors-requires
 tell-sensors-requires c κs = asked (c .before .before .before) .below
 
-name-requires : tie.Need-name-requires
-name-requires c κs = search needs
-
-deliver-count-requires : tie.Need-deliver-count-requires
-deliver-count-requires c κs = search needs
-
-answered-requires : tie.Need-answered-requires
-answered-requires c κs = search needs
-
-same-length : tie.Need-same-length
-same-length c = search needs
-
 returns : tie.Need-returns
 unfolding answer
 returns c =
@@ -45,14 +33,4 @@ returns c =
 
 pub sensor-list-spec : {M : Type 1} → statement M
 sensor-list-spec =
-    tie.close
-    (tie.spec
-    sensors-told-requires
-    array-share-prefix-places
-    slice-aggregate-tell-sensors
-    tell-sensors-requires
-    name-requires
-    deliver-count-requires
-    answered-requires
-    same-length
-    returns)
+    tie.close (tie.spec sensors-told-requires array-share-prefix-places slice-aggregate-tell-sensors tell-sensors-requires (λ c κs. search needs) (λ c κs. search needs) (λ c κs. search needs) (λ c. search needs) returns)

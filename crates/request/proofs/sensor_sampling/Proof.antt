@@ -9,17 +9,8 @@ use borrow.Author.Needs.{needs}
 use Rattle.request.proofs.sensor_sampling.Statement.{statement}
 use Rattle.request.proofs.sensor_sampling.Tie as tie
 
-name-requires : tie.Need-name-requires
-name-requires c κs = search needs
-
-slice-aggregate-argument : tie.Need-slice-aggregate-argument
-slice-aggregate-argument c = search needs
-
 argument-requires : tie.Need-argument-requires
 argument-requires c κs = (short _ _ (c .before .before .before .before .before .pre .heard .read), refl)
-
-array-share-prefix-text : tie.Need-array-share-prefix-text
-array-share-prefix-text c = search needs
 
 slice-aggregate-names : tie.Need-slice-aggregate-names
 slice-aggregate-names c =
@@ -27,20 +18,11 @@ slice-aggregate-names c =
     let e : length (text .last .1 .1 .0) ≡ 2048 = search needs in
     sym (length-take-le _ (text .last .1 .1 .0) (omega (arith, text .ensures .1)))
 
-scan-requires : tie.Need-scan-requires
-scan-requires c κs = search needs
-
 own : (c : tie.After-scan) → Scan (c .before .before .before .before .before .before .before .before .before .args .state) (c .before .before .before .before .before .before .before .before .before .args .line .now) (c .scan .result)
 own c = scan-is (c .before .before .before .before .before .before .before .before .before .pre) (c .before .before .before .argument .ensures .0) (c .scan .ensures)
 
-array-read-query : tie.Need-array-read-query
-array-read-query c = search needs
-
 query-requires : tie.Need-query-requires
 query-requires c κs = let scan = c .before .before .before .before in (scan .before .before .before .before .before .before .before .before .before .pre .heard .client, own scan .first-below)
-
-same-length : tie.Need-same-length
-same-length c = search needs
 
 returns : tie.Need-returns
 returns c =
@@ -53,9 +35,6 @@ array-share-prefix-places c = own (c .before .before .before) .long
 slice-aggregate-setting-asked : tie.Need-slice-aggregate-setting-asked
 slice-aggregate-setting-asked c = own (c .before .before .before .before) .many
 
-setting-asked-requires : tie.Need-setting-asked-requires
-setting-asked-requires c κs = search needs
-
 array-share-prefix-places-2 : tie.Need-array-share-prefix-places-2
 array-share-prefix-places-2 c = own (c .before .before .before .before .before) .long
 
@@ -65,9 +44,6 @@ slice-aggregate-set c = own (c .before .before .before .before .before .before) 
 set-requires : tie.Need-set-requires
 set-requires c κs = let scan = c .before .before .before .before .before .before .before in (scan .before .before .before .before .before .before .before .before .before .pre .heard .client, (own scan .below, own scan .some))
 
-same-length-2 : tie.Need-same-length-2
-same-length-2 c = search needs
-
 returns-2 : tie.Need-returns-2
 returns-2 c =
     let scan = c .before .before .before .before .before .before .before .before .before .before in
@@ -75,23 +51,4 @@ returns-2 c =
 
 pub sensor-sampling-spec : {M : Type 1} → statement M
 sensor-sampling-spec =
-    tie.close
-    (tie.spec
-    name-requires
-    slice-aggregate-argument
-    argument-requires
-    array-share-prefix-text
-    slice-aggregate-names
-    scan-requires
-    array-read-query
-    query-requires
-    same-length
-    returns
-    array-share-prefix-places
-    slice-aggregate-setting-asked
-    setting-asked-requires
-    array-share-prefix-places-2
-    slice-aggregate-set
-    set-requires
-    same-length-2
-    returns-2)
+    tie.close (tie.spec (λ c κs. search needs) (λ c. search needs) argument-requires (λ c. search needs) slice-aggregate-names (λ c κs. search needs) (λ c. search needs) query-requires (λ c. search needs) returns array-share-prefix-places slice-aggregate-setting-asked (λ c κs. search needs) array-share-prefix-places-2 slice-aggregate-set set-requires (λ c. search needs) returns-2)

@@ -24,18 +24,6 @@ slice-aggregate-tell-values c = list-long (asked (c .before .before .before))
 tell-values-requires : tie.Need-tell-values-requires
 tell-values-requires c κs = asked (c .before .before .before) .below
 
-name-requires : tie.Need-name-requires
-name-requires c κs = search needs
-
-deliver-count-requires : tie.Need-deliver-count-requires
-deliver-count-requires c κs = search needs
-
-answered-requires : tie.Need-answered-requires
-answered-requires c κs = search needs
-
-same-length : tie.Need-same-length
-same-length c = search needs
-
 returns : tie.Need-returns
 unfolding answer
 returns c =
@@ -44,14 +32,4 @@ returns c =
 
 pub sensor-value-spec : {M : Type 1} → statement M
 sensor-value-spec =
-    tie.close
-    (tie.spec
-    sensors-told-requires
-    array-share-prefix-places
-    slice-aggregate-tell-values
-    tell-values-requires
-    name-requires
-    deliver-count-requires
-    answered-requires
-    same-length
-    returns)
+    tie.close (tie.spec sensors-told-requires array-share-prefix-places slice-aggregate-tell-values tell-values-requires (λ c κs. search needs) (λ c κs. search needs) (λ c κs. search needs) (λ c. search needs) returns)

@@ -7,17 +7,11 @@ use borrow.Author.Needs.{needs}
 use Rattle.request.proofs.sensors_told.Statement.{statement}
 use Rattle.request.proofs.sensors_told.Tie as tie
 
-every-place-requires : tie.Need-every-place-requires
-every-place-requires c κs = search needs
-
 returns : tie.Need-returns
 returns c = c .every-place .ensures ∙ every-is (c .before .before .before .before .args .sheet) (c .before .before .before .before .pre .1) ∙ ap (scanned (c .before .before .before .before .args .sheet)) (all-asked (c .before .before .before .before .args .line .now) (c .before .before .before .before .args .head) (c .before .before .before .before .pre .0) (c .before .before .before .before .args .sheet) (c .before .if1 .taken))
-
-sensors-listed-requires : tie.Need-sensors-listed-requires
-sensors-listed-requires c κs = search needs
 
 returns-2 : tie.Need-returns-2
 returns-2 c = c .sensors-listed .ensures ∙ ap (scanned (c .before .before .before .before .args .sheet)) (list-asked (c .before .before .before .before .args .line .now) (c .before .before .before .before .args .head) (c .before .before .before .before .pre .0) (c .before .before .before .before .args .sheet) (c .before .if1 .left))
 
 pub sensors-told-spec : {M : Type 1} → statement M
-sensors-told-spec = tie.close (tie.spec every-place-requires returns sensors-listed-requires returns-2)
+sensors-told-spec = tie.close (tie.spec (λ c κs. search needs) returns (λ c κs. search needs) returns-2)

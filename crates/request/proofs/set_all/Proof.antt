@@ -45,9 +45,6 @@ mul-pair c = let l = place (c .before .before .before) in search needs
 element-copy-out-pair : tie.Need-element-copy-out-pair Inv-loop μ-loop
 element-copy-out-pair c = let l = place (c .before .before .before) in search needs
 
-with-strategy-requires : tie.Need-with-strategy-requires Inv-loop μ-loop
-with-strategy-requires c κs = search needs
-
 mul-t12 : tie.Need-mul-t12 Inv-loop μ-loop
 mul-t12 c = let l = place (c .before .before .before .before .before) in search needs
 
@@ -71,23 +68,4 @@ returns c = set-all _ _ _ _ (c .before .loop .inv) (c .loop-test .left)
 
 pub set-all-spec : {M : Type 1} → statement M
 set-all-spec =
-    tie.close
-    (tie.spec
-    Inv-loop
-    μ-loop
-    loop-holds
-    shared-slice-read-j
-    cast-j
-    mul-p
-    add-p
-    mul-stored
-    element-copy-out-stored
-    mul-pair
-    element-copy-out-pair
-    with-strategy-requires
-    mul-t12
-    element-set-from-s
-    add-k
-    loop-less
-    loop-again
-    returns)
+    tie.close (tie.spec Inv-loop μ-loop loop-holds shared-slice-read-j cast-j mul-p add-p mul-stored element-copy-out-stored mul-pair element-copy-out-pair (λ c κs. search needs) mul-t12 element-set-from-s add-k loop-less loop-again returns)

@@ -41,9 +41,6 @@ mul-stored c = let l = place (c .before .before) in search needs
 element-copy-out-stored : tie.Need-element-copy-out-stored Inv-loop μ-loop
 element-copy-out-stored c = let l = place (c .before .before) in search needs
 
-deliver-report-requires : tie.Need-deliver-report-requires Inv-loop μ-loop
-deliver-report-requires c κs = search needs
-
 add-k : tie.Need-add-k Inv-loop μ-loop
 add-k c = omega arith
 
@@ -61,20 +58,4 @@ returns c = passed-all (c .before .loop .inv) (c .loop-test .left)
 
 pub tell-reports-spec : {M : Type 1} → statement M
 tell-reports-spec =
-    tie.close
-    (tie.spec
-    Inv-loop
-    μ-loop
-    loop-holds
-    shared-slice-read-j
-    cast-j
-    mul-sensor
-    element-copy-out-sensor
-    mul-stored
-    element-copy-out-stored
-    deliver-report-requires
-    add-k
-    loop-less
-    loop-again
-    same-length
-    returns)
+    tie.close (tie.spec Inv-loop μ-loop loop-holds shared-slice-read-j cast-j mul-sensor element-copy-out-sensor mul-stored element-copy-out-stored (λ c κs. search needs) add-k loop-less loop-again same-length returns)

@@ -26,9 +26,6 @@ loop-holds c = passed-none _ _ _
 held : (c : tie.After-shared-slice-known2 Inv-loop μ-loop) → getD (c .before .before .before .before .before .args .places .now) (c .before .before .loop .k) 0 < 32
 held c = each-at (λ j. j < 32) (c .before .before .before .before .before .args .places .now) (c .before .before .loop .k) (c .before .before .before .before .before .pre) (omega arith)
 
-shared-slice-read-sensor : tie.Need-shared-slice-read-sensor Inv-loop μ-loop
-shared-slice-read-sensor c = search needs
-
 cast-sensor : tie.Need-cast-sensor Inv-loop μ-loop
 cast-sensor c = let h = held c in search needs
 
@@ -37,15 +34,6 @@ mul-sensor c = let h = held c in search needs
 
 element-copy-out-sensor : tie.Need-element-copy-out-sensor Inv-loop μ-loop
 element-copy-out-sensor c = let h = held c in search needs
-
-deliver-sensor-requires : tie.Need-deliver-sensor-requires Inv-loop μ-loop
-deliver-sensor-requires c κs = search needs
-
-add-k : tie.Need-add-k Inv-loop μ-loop
-add-k c = search needs
-
-loop-less : tie.Need-loop-less Inv-loop μ-loop
-loop-less c = search needs
 
 loop-again : tie.Need-loop-again Inv-loop μ-loop
 loop-again c = passed-on (c .before .before .before .before .before .before .before .loop .inv) (omega arith) (c .before .before .deliver-sensor .ensures)
@@ -58,18 +46,4 @@ returns c = as-sent (passed-all (c .before .loop .inv) (omega arith)) (sym (map-
 
 pub tell-sensors-spec : {M : Type 1} → statement M
 tell-sensors-spec =
-    tie.close
-    (tie.spec
-    Inv-loop
-    μ-loop
-    loop-holds
-    shared-slice-read-sensor
-    cast-sensor
-    mul-sensor
-    element-copy-out-sensor
-    deliver-sensor-requires
-    add-k
-    loop-less
-    loop-again
-    same-length
-    returns)
+    tie.close (tie.spec Inv-loop μ-loop loop-holds (λ c. search needs) cast-sensor mul-sensor element-copy-out-sensor (λ c κs. search needs) (λ c. search needs) (λ c. search needs) loop-again same-length returns)

@@ -6,21 +6,12 @@ use borrow.Author.Needs.{needs}
 use Rattle.request.proofs.tell_set.Statement.{statement}
 use Rattle.request.proofs.tell_set.Tie as tie
 
-is-none-requires : tie.Need-is-none-requires
-is-none-requires c κs = search needs
-
 returns : tie.Need-returns
 returns c = as-sent none-sent (sym (cond-true _ _ _ (sym (c .before .is-none .ensures) ∙ c .if1 .taken)))
-
-tell-reports-requires : tie.Need-tell-reports-requires
-tell-reports-requires c κs = search needs
-
-same-length : tie.Need-same-length
-same-length c = search needs
 
 returns-2 : tie.Need-returns-2
 returns-2 c = as-sent (c .before .before .tell-reports .ensures) (sym (cond-false _ _ _ (sym (c .before .before .before .before .before .is-none .ensures) ∙ c .before .before .before .before .if1 .left)))
 
 pub tell-set-spec : {M : Type 1} → statement M
 tell-set-spec =
-    tie.close (tie.spec is-none-requires returns tell-reports-requires same-length returns-2)
+    tie.close (tie.spec (λ c κs. search needs) returns (λ c κs. search needs) (λ c. search needs) returns-2)

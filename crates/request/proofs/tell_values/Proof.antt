@@ -25,9 +25,6 @@ loop-holds c = passed-none _ _ _
 held : (c : tie.After-shared-slice-known2 Inv-loop μ-loop) → getD (c .before .before .before .before .before .before .before .args .places .now) (c .before .before .loop .k) 0 < 32
 held c = each-at (λ j. j < 32) (c .before .before .before .before .before .before .before .args .places .now) (c .before .before .loop .k) (c .before .before .before .before .before .before .before .pre) (omega arith)
 
-shared-slice-read-j : tie.Need-shared-slice-read-j Inv-loop μ-loop
-shared-slice-read-j c = search needs
-
 cast-j : tie.Need-cast-j Inv-loop μ-loop
 cast-j c = let h = held c in search needs
 
@@ -43,15 +40,6 @@ mul-stored c = let h = held (c .before) in search needs
 element-copy-out-stored : tie.Need-element-copy-out-stored Inv-loop μ-loop
 element-copy-out-stored c = let h = held (c .before) in search needs
 
-deliver-value-requires : tie.Need-deliver-value-requires Inv-loop μ-loop
-deliver-value-requires c κs = search needs
-
-add-k : tie.Need-add-k Inv-loop μ-loop
-add-k c = search needs
-
-loop-less : tie.Need-loop-less Inv-loop μ-loop
-loop-less c = search needs
-
 loop-again : tie.Need-loop-again Inv-loop μ-loop
 unfolding valueInform
 loop-again c = passed-on (c .before .before .before .before .before .before .before .before .before .before .loop .inv) (omega arith) (c .before .before .deliver-value .ensures)
@@ -64,20 +52,4 @@ returns c = as-sent (passed-all (c .before .loop .inv) (omega arith)) (sym (map-
 
 pub tell-values-spec : {M : Type 1} → statement M
 tell-values-spec =
-    tie.close
-    (tie.spec
-    Inv-loop
-    μ-loop
-    loop-holds
-    shared-slice-read-j
-    cast-j
-    mul-sensor
-    element-copy-out-sensor
-    mul-stored
-    element-copy-out-stored
-    deliver-value-requires
-    add-k
-    loop-less
-    loop-again
-    same-length
-    returns)
+    tie.close (tie.spec Inv-loop μ-loop loop-holds (λ c. search needs) cast-j mul-sensor element-copy-out-sensor mul-stored element-copy-out-stored (λ c κs. search needs) (λ c. search needs) (λ c. search needs) loop-again same-length returns)

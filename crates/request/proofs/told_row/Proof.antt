@@ -8,11 +8,8 @@ use borrow.Author.Needs.{needs}
 use Rattle.request.proofs.told_row.Statement.{statement}
 use Rattle.request.proofs.told_row.Tie as tie
 
-sensors-told-requires : tie.Need-sensors-told-requires
-sensors-told-requires c κs = search needs
-
 returns : tie.Need-returns
 returns c = ap (λ (l : Listed). l .number) (c .sensors-told .ensures) ∙ scanned-number (c .before .before .args .sheet) (c .before .before .pre .1) (askedPlaces (c .before .before .args .sheet) (messageOf (c .before .before .args .line .now)))
 
 pub told-row-spec : {M : Type 1} → statement M
-told-row-spec = tie.close (tie.spec sensors-told-requires returns)
+told-row-spec = tie.close (tie.spec (λ c κs. search needs) returns)

@@ -8,18 +8,6 @@ use Rattle.request.proofs.TellLaws.{tells}
 use Rattle.request.proofs.version_list.Statement.{statement}
 use Rattle.request.proofs.version_list.Tie as tie
 
-name-requires : tie.Need-name-requires
-name-requires c κs = search needs
-
-version-list-requires : tie.Need-version-list-requires
-version-list-requires c κs = search needs
-
-answered-requires : tie.Need-answered-requires
-answered-requires c κs = search needs
-
-same-length : tie.Need-same-length
-same-length c = search needs
-
 returns : tie.Need-returns
 unfolding answer
 returns c =
@@ -28,4 +16,4 @@ returns c =
 
 pub version-list-spec : {M : Type 1} → statement M
 version-list-spec =
-    tie.close (tie.spec name-requires version-list-requires answered-requires same-length returns)
+    tie.close (tie.spec (λ c κs. search needs) (λ c κs. search needs) (λ c κs. search needs) (λ c. search needs) returns)

@@ -7,21 +7,6 @@ use Rattle.request.proofs.TellLaws.{replies}
 use Rattle.request.proofs.watchdog.Statement.{statement}
 use Rattle.request.proofs.watchdog.Tie as tie
 
-name-requires : tie.Need-name-requires
-name-requires c κs = search needs
-
-slice-aggregate-deliver-one : tie.Need-slice-aggregate-deliver-one
-slice-aggregate-deliver-one c = search needs
-
-deliver-one-requires : tie.Need-deliver-one-requires
-deliver-one-requires c κs = search needs
-
-answered-requires : tie.Need-answered-requires
-answered-requires c κs = search needs
-
-same-length : tie.Need-same-length
-same-length c = search needs
-
 returns : tie.Need-returns
 unfolding answer
 returns c =
@@ -30,11 +15,4 @@ returns c =
 
 pub watchdog-spec : {M : Type 1} → statement M
 watchdog-spec =
-    tie.close
-    (tie.spec
-    name-requires
-    slice-aggregate-deliver-one
-    deliver-one-requires
-    answered-requires
-    same-length
-    returns)
+    tie.close (tie.spec (λ c κs. search needs) (λ c. search needs) (λ c κs. search needs) (λ c κs. search needs) (λ c. search needs) returns)

@@ -3,11 +3,8 @@ use borrow.Author.Needs.{needs}
 use Rattle.rules.proofs.alike_texts.Statement.{statement}
 use Rattle.rules.proofs.alike_texts.Tie as tie
 
-same-requires : tie.Need-same-requires
-same-requires c κs = search needs
-
 returns : tie.Need-returns
 returns c = rw (c .same .ensures)
 
 pub alike-texts-spec : {M : Type 1} → statement M
-alike-texts-spec = tie.close (tie.spec same-requires returns)
+alike-texts-spec = tie.close (tie.spec (λ c κs. search needs) returns)

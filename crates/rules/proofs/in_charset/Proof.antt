@@ -5,21 +5,6 @@ use Rattle.machine.specs.Declined.{entryByte}
 use Rattle.rules.proofs.in_charset.Statement.{statement}
 use Rattle.rules.proofs.in_charset.Tie as tie
 
-enum-told : tie.Need-enum-told
-enum-told c = search needs
-
-name-byte-requires : tie.Need-name-byte-requires
-name-byte-requires c κs = search needs
-
-enum-told-2 : tie.Need-enum-told-2
-enum-told-2 c = search needs
-
-enum-told-3 : tie.Need-enum-told-3
-enum-told-3 c = search needs
-
-enum-told-4 : tie.Need-enum-told-4
-enum-told-4 c = search needs
-
 returns : tie.Need-returns
 returns c = rw (c .before .enum-told .given .1) (c .name-byte .ensures)
 
@@ -37,5 +22,4 @@ returns-4 c = rw (c .enum-told4 .given .1)
 
 pub in-charset-spec : {M : Type 1} → statement M
 in-charset-spec =
-    tie.close
-    (tie.spec enum-told name-byte-requires enum-told-2 enum-told-3 enum-told-4 returns returns-2 returns-3 returns-4)
+    tie.close (tie.spec (λ c. search needs) (λ c κs. search needs) (λ c. search needs) (λ c. search needs) (λ c. search needs) returns returns-2 returns-3 returns-4)

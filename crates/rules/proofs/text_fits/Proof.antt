@@ -21,9 +21,6 @@ loop-holds c = passing _ _
 shared-slice-read-in-charset : tie.Need-shared-slice-read-in-charset Inv-loop μ-loop
 shared-slice-read-in-charset c = omega arith
 
-in-charset-requires : tie.Need-in-charset-requires Inv-loop μ-loop
-in-charset-requires c κs = search needs
-
 add-i : tie.Need-add-i Inv-loop μ-loop
 add-i c = omega arith
 
@@ -39,14 +36,4 @@ returns c = rw (passing-end (c .before .loop .inv) (omega arith))
 
 pub text-fits-spec : {M : Type 1} → statement M
 text-fits-spec =
-    tie.close
-    (tie.spec
-    Inv-loop
-    μ-loop
-    loop-holds
-    shared-slice-read-in-charset
-    in-charset-requires
-    add-i
-    loop-less
-    loop-again
-    returns)
+    tie.close (tie.spec Inv-loop μ-loop loop-holds shared-slice-read-in-charset (λ c κs. search needs) add-i loop-less loop-again returns)

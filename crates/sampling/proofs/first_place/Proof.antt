@@ -9,12 +9,6 @@ returns : tie.Need-returns
 unfolding firstPlace
 returns c = rw (ne-eqb (c .before .args .number) 0 (c .if1 .taken))
 
-enum-told : tie.Need-enum-told
-enum-told c = search needs
-
-enum-known-cause : tie.Need-enum-known-cause
-enum-known-cause c = search needs
-
 returns-2 : tie.Need-returns-2
 unfolding firstPlace
 returns-2 c = rw (eq-eqb (c .before .before .before .args .number) 0 (c .before .before .if1 .left), c .enum-told .given .1)
@@ -29,4 +23,4 @@ returns-4 c = rw (eq-eqb (c .before .before .before .before .before .args .numbe
 
 pub first-place-spec : {M : Type 1} → statement M
 first-place-spec =
-    tie.close (tie.spec returns enum-told enum-known-cause returns-2 returns-3 returns-4)
+    tie.close (tie.spec returns (λ c. search needs) (λ c. search needs) returns-2 returns-3 returns-4)

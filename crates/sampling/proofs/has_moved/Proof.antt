@@ -4,19 +4,10 @@ use borrow.Author.Needs.{needs}
 use Rattle.sampling.proofs.has_moved.Statement.{statement}
 use Rattle.sampling.proofs.has_moved.Tie as tie
 
-status-changed-requires : tie.Need-status-changed-requires
-status-changed-requires c κs = search needs
-
-distance-requires : tie.Need-distance-requires
-distance-requires c κs = search needs
-
-is-beyond-requires : tie.Need-is-beyond-requires
-is-beyond-requires c κs = search needs
-
 returns : tie.Need-returns
 unfolding moved
 returns c = rw (c .before .before .before .before .status-changed .ensures, c .before .before .is-beyond .ensures, c .before .before .before .distance .ensures)
 
 pub has-moved-spec : {M : Type 1} → statement M
 has-moved-spec =
-    tie.close (tie.spec status-changed-requires distance-requires is-beyond-requires returns)
+    tie.close (tie.spec (λ c κs. search needs) (λ c κs. search needs) (λ c κs. search needs) returns)

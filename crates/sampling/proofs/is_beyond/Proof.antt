@@ -6,15 +6,6 @@ use borrow.Author.Needs.{needs}
 use Rattle.sampling.proofs.is_beyond.Statement.{statement}
 use Rattle.sampling.proofs.is_beyond.Tie as tie
 
-mul-whole : tie.Need-mul-whole
-mul-whole c = search needs
-
-mul-rest : tie.Need-mul-rest
-mul-rest c = search needs
-
-add-result : tie.Need-add-result
-add-result c = search needs
-
 returns : tie.Need-returns
 unfolding beyond
 returns c = simp (eq-eqb _ _ (c .if1 .taken)) (by-quotients (c .before .before .args .difference) (c .before .before .args .units))
@@ -24,4 +15,4 @@ unfolding beyond
 returns-2 c = simp (ne-eqb _ _ (c .if1 .left)) (by-quotient (c .before .before .args .difference) (c .before .before .args .units))
 
 pub is-beyond-spec : {M : Type 1} → statement M
-is-beyond-spec = tie.close (tie.spec mul-whole mul-rest add-result returns returns-2)
+is-beyond-spec = tie.close (tie.spec (λ c. search needs) (λ c. search needs) (λ c. search needs) returns returns-2)

@@ -4,12 +4,9 @@ use borrow.Author.Needs.{needs}
 use Rattle.sampling.proofs.is_changed.Statement.{statement}
 use Rattle.sampling.proofs.is_changed.Tie as tie
 
-status-changed-requires : tie.Need-status-changed-requires
-status-changed-requires c κs = search needs
-
 returns : tie.Need-returns
 unfolding changed
 returns c = rw (c .before .before .status-changed .ensures)
 
 pub is-changed-spec : {M : Type 1} → statement M
-is-changed-spec = tie.close (tie.spec status-changed-requires returns)
+is-changed-spec = tie.close (tie.spec (λ c κs. search needs) returns)

@@ -4,42 +4,6 @@ use borrow.Author.Needs.{needs}
 use Rattle.sampling.proofs.is_due.Statement.{statement}
 use Rattle.sampling.proofs.is_due.Tie as tie
 
-since-requires : tie.Need-since-requires
-since-requires c κs = search needs
-
-enum-told : tie.Need-enum-told
-enum-told c = search needs
-
-enum-told-2 : tie.Need-enum-told-2
-enum-told-2 c = search needs
-
-enum-known-strategy : tie.Need-enum-known-strategy
-enum-known-strategy c = search needs
-
-enum-told-3 : tie.Need-enum-told-3
-enum-told-3 c = search needs
-
-is-changed-requires : tie.Need-is-changed-requires
-is-changed-requires c κs = search needs
-
-enum-known-strategy-2 : tie.Need-enum-known-strategy-2
-enum-known-strategy-2 c = search needs
-
-has-moved-requires : tie.Need-has-moved-requires
-has-moved-requires c κs = search needs
-
-enum-known-strategy-3 : tie.Need-enum-known-strategy-3
-enum-known-strategy-3 c = search needs
-
-is-changed-requires-2 : tie.Need-is-changed-requires-2
-is-changed-requires-2 c κs = search needs
-
-enum-known-strategy-4 : tie.Need-enum-known-strategy-4
-enum-known-strategy-4 c = search needs
-
-has-moved-requires-2 : tie.Need-has-moved-requires-2
-has-moved-requires-2 c κs = search needs
-
 returns : tie.Need-returns
 unfolding due dueBy
 returns c = rw (c .enum-told .given .1)
@@ -70,24 +34,4 @@ returns-7 c = rw (c .before .before .strategy4 .given .1, c .before .before .bef
 
 pub is-due-spec : {M : Type 1} → statement M
 is-due-spec =
-    tie.close
-    (tie.spec
-    since-requires
-    enum-told
-    enum-told-2
-    enum-known-strategy
-    enum-told-3
-    is-changed-requires
-    enum-known-strategy-2
-    has-moved-requires
-    enum-known-strategy-3
-    is-changed-requires-2
-    enum-known-strategy-4
-    has-moved-requires-2
-    returns
-    returns-2
-    returns-3
-    returns-4
-    returns-5
-    returns-6
-    returns-7)
+    tie.close (tie.spec (λ c κs. search needs) (λ c. search needs) (λ c. search needs) (λ c. search needs) (λ c. search needs) (λ c κs. search needs) (λ c. search needs) (λ c κs. search needs) (λ c. search needs) (λ c κs. search needs) (λ c. search needs) (λ c κs. search needs) returns returns-2 returns-3 returns-4 returns-5 returns-6 returns-7)

@@ -4,24 +4,6 @@ use Rattle.sampling.specs.Visits.{nextPlace}
 use Rattle.sampling.proofs.next_place.Statement.{statement}
 use Rattle.sampling.proofs.next_place.Tie as tie
 
-enum-told : tie.Need-enum-told
-enum-told c = search needs
-
-add-result : tie.Need-add-result
-add-result c = search needs
-
-sub-result : tie.Need-sub-result
-sub-result c = search needs
-
-add-result-2 : tie.Need-add-result-2
-add-result-2 c = search needs
-
-enum-told-2 : tie.Need-enum-told-2
-enum-told-2 c = search needs
-
-add-result-3 : tie.Need-add-result-3
-add-result-3 c = search needs
-
 returns : tie.Need-returns
 unfolding nextPlace
 returns c = rw (c .before .enum-told .given .1, c .if1 .taken)
@@ -36,14 +18,4 @@ returns-3 c = rw (c .enum-told2 .given .1)
 
 pub next-place-spec : {M : Type 1} → statement M
 next-place-spec =
-    tie.close
-    (tie.spec
-    enum-told
-    add-result
-    sub-result
-    add-result-2
-    enum-told-2
-    add-result-3
-    returns
-    returns-2
-    returns-3)
+    tie.close (tie.spec (λ c. search needs) (λ c. search needs) (λ c. search needs) (λ c. search needs) (λ c. search needs) (λ c. search needs) returns returns-2 returns-3)

@@ -21,15 +21,6 @@ Inv-loop number s cause clock out₀ readings sheet clients pairs₀ count readi
 abbrev μ-loop : tie.MeasureT-loop
 μ-loop number s cause clock out₀ readings sheet clients pairs₀ count reading at₀ p₀ out pairs at p = 256 - p
 
-cast-count : tie.Need-cast-count Inv-loop μ-loop
-cast-count c = search needs
-
-by-reading-requires : tie.Need-by-reading-requires Inv-loop μ-loop
-by-reading-requires c κs = search needs
-
-first-place-requires : tie.Need-first-place-requires Inv-loop μ-loop
-first-place-requires c κs = search needs
-
 loop-holds : tie.Need-loop-holds Inv-loop μ-loop
 unfolding firstPlace
 loop-holds c =
@@ -41,54 +32,6 @@ loop-holds c =
     (output (start .args .out .now) 0)
     (subscriptions-many (start .args .s) _ (start .good .1 .0))
     (c .first-place .ensures)
-
-mul-client : tie.Need-mul-client Inv-loop μ-loop
-mul-client c = search needs
-
-array-copy-out-client : tie.Need-array-copy-out-client Inv-loop μ-loop
-array-copy-out-client c = search needs
-
-mul-pair : tie.Need-mul-pair Inv-loop μ-loop
-mul-pair c = search needs
-
-array-copy-out-pair : tie.Need-array-copy-out-pair Inv-loop μ-loop
-array-copy-out-pair c = search needs
-
-can-report-requires : tie.Need-can-report-requires Inv-loop μ-loop
-can-report-requires c κs = search needs
-
-mul-sensor : tie.Need-mul-sensor Inv-loop μ-loop
-mul-sensor c = search needs
-
-element-copy-out-sensor : tie.Need-element-copy-out-sensor Inv-loop μ-loop
-element-copy-out-sensor c = search needs
-
-mul-stored : tie.Need-mul-stored Inv-loop μ-loop
-mul-stored c = search needs
-
-array-copy-out-stored : tie.Need-array-copy-out-stored Inv-loop μ-loop
-array-copy-out-stored c = search needs
-
-is-due-requires : tie.Need-is-due-requires Inv-loop μ-loop
-is-due-requires c κs = search needs
-
-cast-deliver-report : tie.Need-cast-deliver-report Inv-loop μ-loop
-cast-deliver-report c = search needs
-
-deliver-report-requires : tie.Need-deliver-report-requires Inv-loop μ-loop
-deliver-report-requires c κs = search needs
-
-after-report-requires : tie.Need-after-report-requires Inv-loop μ-loop
-after-report-requires c κs = search needs
-
-mul-pairs : tie.Need-mul-pairs Inv-loop μ-loop
-mul-pairs c = search needs
-
-array-set-from-pairs : tie.Need-array-set-from-pairs Inv-loop μ-loop
-array-set-from-pairs c = search needs
-
-next-place-requires : tie.Need-next-place-requires Inv-loop μ-loop
-next-place-requires c κs = search needs
 
 loop-less : tie.Need-loop-less Inv-loop μ-loop
 loop-less c =
@@ -135,31 +78,4 @@ returns c =
 
 pub visit-spec : {M : Type 1} → statement M
 visit-spec =
-    tie.close
-    (tie.spec
-    Inv-loop
-    μ-loop
-    cast-count
-    by-reading-requires
-    first-place-requires
-    loop-holds
-    mul-client
-    array-copy-out-client
-    mul-pair
-    array-copy-out-pair
-    can-report-requires
-    mul-sensor
-    element-copy-out-sensor
-    mul-stored
-    array-copy-out-stored
-    is-due-requires
-    cast-deliver-report
-    deliver-report-requires
-    after-report-requires
-    mul-pairs
-    array-set-from-pairs
-    next-place-requires
-    loop-less
-    loop-again
-    same-length
-    returns)
+    tie.close (tie.spec Inv-loop μ-loop (λ c. search needs) (λ c κs. search needs) (λ c κs. search needs) loop-holds (λ c. search needs) (λ c. search needs) (λ c. search needs) (λ c. search needs) (λ c κs. search needs) (λ c. search needs) (λ c. search needs) (λ c. search needs) (λ c. search needs) (λ c κs. search needs) (λ c. search needs) (λ c κs. search needs) (λ c κs. search needs) (λ c. search needs) (λ c. search needs) (λ c κs. search needs) loop-less loop-again same-length returns)

@@ -6,9 +6,6 @@ use Rattle.machine.proofs.RangeLaws.{none-is}
 use Rattle.sampling.proofs.with_strategy.Statement.{statement}
 use Rattle.sampling.proofs.with_strategy.Tie as tie
 
-is-none-requires : tie.Need-is-none-requires
-is-none-requires c κs = search needs
-
 returns : tie.Need-returns
 unfolding sampled
 returns c =
@@ -20,4 +17,4 @@ unfolding sampled
 returns-2 c = rw (sym (c .before .is-none .ensures) ∙ c .if1 .left)
 
 pub with-strategy-spec : {M : Type 1} → statement M
-with-strategy-spec = tie.close (tie.spec is-none-requires returns returns-2)
+with-strategy-spec = tie.close (tie.spec (λ c κs. search needs) returns returns-2)

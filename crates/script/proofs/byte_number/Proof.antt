@@ -5,14 +5,8 @@ use Rattle.script.specs.Script.{atMost}
 use Rattle.script.proofs.byte_number.Statement.{statement}
 use Rattle.script.proofs.byte_number.Tie as tie
 
-read-decimal-requires : tie.Need-read-decimal-requires
-read-decimal-requires c κs = search needs
-
-at-most-requires : tie.Need-at-most-requires
-at-most-requires c κs = search needs
-
 returns : tie.Need-returns
 returns c = c .at-most .ensures ∙ ap (atMost 255) (c .before .read-decimal .ensures)
 
 pub byte-number-spec : {M : Type 1} → statement M
-byte-number-spec = tie.close (tie.spec read-decimal-requires at-most-requires returns)
+byte-number-spec = tie.close (tie.spec (λ c κs. search needs) (λ c κs. search needs) returns)

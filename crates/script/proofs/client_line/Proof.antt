@@ -7,39 +7,15 @@ use Rattle.script.proofs.client_line.Tie as tie
 held-bytes : (c : tie.After-put-bytes-of) → Held 3 (c .before .before .before .before .before .args .line .now) (c .put-bytes-of .last .0) (c .put-bytes-of .result)
 held-bytes c = held 3 (c .before .word .ensures) (c .put-bytes-of .ensures) (c .before .before .before .before .before .pre)
 
-slice-aggregate-put-bytes-of : tie.Need-slice-aggregate-put-bytes-of
-slice-aggregate-put-bytes-of c = search needs
-
-word-requires : tie.Need-word-requires
-word-requires c κs = search needs
-
-put-bytes-of-requires : tie.Need-put-bytes-of-requires
-put-bytes-of-requires c κs = search needs
-
 array-share-prefix-bytes : tie.Need-array-share-prefix-bytes
 array-share-prefix-bytes c = held-bytes (c .before) .inside
 
 slice-aggregate-line : tie.Need-slice-aggregate-line
 slice-aggregate-line c = held-bytes (c .before .before) .count
 
-line-requires : tie.Need-line-requires
-line-requires c κs = search needs
-
-same-length : tie.Need-same-length
-same-length c = search needs
-
 returns : tie.Need-returns
 returns c = rw (held-bytes (c .before .before .before .before .before .before) .bytes) at (c .before .before .line .ensures)
 
 pub client-line-spec : {M : Type 1} → statement M
 client-line-spec =
-    tie.close
-    (tie.spec
-    slice-aggregate-put-bytes-of
-    word-requires
-    put-bytes-of-requires
-    array-share-prefix-bytes
-    slice-aggregate-line
-    line-requires
-    same-length
-    returns)
+    tie.close (tie.spec (λ c. search needs) (λ c κs. search needs) (λ c κs. search needs) array-share-prefix-bytes slice-aggregate-line (λ c κs. search needs) (λ c. search needs) returns)

@@ -8,25 +8,12 @@ use Rattle.script.specs.Script.{floatOf}
 use Rattle.script.proofs.float_of.Statement.{statement}
 use Rattle.script.proofs.float_of.Tie as tie
 
-read-bits-requires : tie.Need-read-bits-requires
-read-bits-requires c κs = search needs
-
-enum-known-bits : tie.Need-enum-known-bits
-enum-known-bits c = search needs
-
-enum-told : tie.Need-enum-told
-enum-told c = search needs
-
 returns : tie.Need-returns
 returns c = sym (ap floatOf (sym (c .before .before .read-bits .ensures) ∙ c .enum-told .given .1))
-
-double-of-requires : tie.Need-double-of-requires
-double-of-requires c κs = search needs
 
 returns-2 : tie.Need-returns-2
 returns-2 c = ap (λ (x : Double). A (Float x)) (c .double-of .ensures) ∙ sym (ap floatOf (sym (c .before .before .before .before .read-bits .ensures) ∙ c .before .before .bits .given .1))
 
 pub float-of-spec : {M : Type 1} → statement M
 float-of-spec =
-    tie.close
-    (tie.spec read-bits-requires enum-known-bits enum-told returns double-of-requires returns-2)
+    tie.close (tie.spec (λ c κs. search needs) (λ c. search needs) (λ c. search needs) returns (λ c κs. search needs) returns-2)

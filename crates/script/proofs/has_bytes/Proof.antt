@@ -5,14 +5,8 @@ use Rattle.hex.specs.Hex.{isBytes}
 use Rattle.script.proofs.has_bytes.Statement.{statement}
 use Rattle.script.proofs.has_bytes.Tie as tie
 
-word-requires : tie.Need-word-requires
-word-requires c κs = search needs
-
-is-bytes-requires : tie.Need-is-bytes-requires
-is-bytes-requires c κs = search needs
-
 returns : tie.Need-returns
 returns c = c .is-bytes .ensures ∙ ap isBytes (c .before .word .ensures)
 
 pub has-bytes-spec : {M : Type 1} → statement M
-has-bytes-spec = tie.close (tie.spec word-requires is-bytes-requires returns)
+has-bytes-spec = tie.close (tie.spec (λ c κs. search needs) (λ c κs. search needs) returns)

@@ -10,15 +10,6 @@ use Rattle.script.specs.Script.{integerGiven}
 use Rattle.script.proofs.integer_of.Statement.{statement}
 use Rattle.script.proofs.integer_of.Tie as tie
 
-read-integer-requires : tie.Need-read-integer-requires
-read-integer-requires c κs = search needs
-
-enum-known-x : tie.Need-enum-known-x
-enum-known-x c = search needs
-
-enum-told : tie.Need-enum-told
-enum-told c = search needs
-
 returns : tie.Need-returns
 returns c = sym (ap integerGiven (sym (c .before .before .read-integer .ensures) ∙ c .enum-told .given .1))
 
@@ -27,4 +18,4 @@ returns-2 c = ap (λ (z : ℤ). A (Integer z)) (toZ-ofZ w32 (c .before .x .given
 
 pub integer-of-spec : {M : Type 1} → statement M
 integer-of-spec =
-    tie.close (tie.spec read-integer-requires enum-known-x enum-told returns returns-2)
+    tie.close (tie.spec (λ c κs. search needs) (λ c. search needs) (λ c. search needs) returns returns-2)

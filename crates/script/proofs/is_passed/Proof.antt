@@ -7,11 +7,8 @@ use Rattle.script.proofs.is_passed.Tie as tie
 returns : tie.Need-returns
 returns c = passed-empty (c .before .args .line .now) (c .if1 .taken)
 
-shared-slice-read-result : tie.Need-shared-slice-read-result
-shared-slice-read-result c = search needs
-
 returns-2 : tie.Need-returns-2
 returns-2 c = passed-first (c .before .before .args .line .now) (c .before .if1 .left)
 
 pub is-passed-spec : {M : Type 1} → statement M
-is-passed-spec = tie.close (tie.spec returns shared-slice-read-result returns-2)
+is-passed-spec = tie.close (tie.spec returns (λ c. search needs) returns-2)

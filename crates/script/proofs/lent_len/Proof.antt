@@ -6,15 +6,6 @@ use Rattle.script.specs.Script.{lentBy}
 use Rattle.script.proofs.lent_len.Statement.{statement}
 use Rattle.script.proofs.lent_len.Tie as tie
 
-number-at-requires : tie.Need-number-at-requires
-number-at-requires c κs = search needs
-
-enum-known-n : tie.Need-enum-known-n
-enum-known-n c = search needs
-
-enum-told : tie.Need-enum-told
-enum-told c = search needs
-
 returns : tie.Need-returns
 unfolding lentBy
 returns c = rw (sym (c .before .before .number-at .ensures) ∙ c .enum-told .given .1) (omega arith)
@@ -29,4 +20,4 @@ returns-3 c = rw (sym (c .before .before .before .before .number-at .ensures) �
 
 pub lent-len-spec : {M : Type 1} → statement M
 lent-len-spec =
-    tie.close (tie.spec number-at-requires enum-known-n enum-told returns returns-2 returns-3)
+    tie.close (tie.spec (λ c κs. search needs) (λ c. search needs) (λ c. search needs) returns returns-2 returns-3)

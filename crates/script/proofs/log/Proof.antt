@@ -10,24 +10,6 @@ held-logger c = held 3 (c .before .word .ensures) (c .put-bytes-of .ensures) (c 
 held-message : (c : tie.After-put-bytes-of2) → Held 4 (c .before .before .before .before .before .before .before .before .before .args .line .now) (c .put-bytes-of2 .last .0) (c .put-bytes-of2 .result)
 held-message c = held 4 (c .before .word2 .ensures) (c .put-bytes-of2 .ensures) (c .before .before .before .before .before .before .before .before .before .pre)
 
-slice-aggregate-put-bytes-of : tie.Need-slice-aggregate-put-bytes-of
-slice-aggregate-put-bytes-of c = search needs
-
-word-requires : tie.Need-word-requires
-word-requires c κs = search needs
-
-put-bytes-of-requires : tie.Need-put-bytes-of-requires
-put-bytes-of-requires c κs = search needs
-
-slice-aggregate-put-bytes-of-2 : tie.Need-slice-aggregate-put-bytes-of-2
-slice-aggregate-put-bytes-of-2 c = search needs
-
-word-requires-2 : tie.Need-word-requires-2
-word-requires-2 c κs = search needs
-
-put-bytes-of-requires-2 : tie.Need-put-bytes-of-requires-2
-put-bytes-of-requires-2 c κs = search needs
-
 array-share-prefix-logger : tie.Need-array-share-prefix-logger
 array-share-prefix-logger c = held-logger (c .before .before .before .before .before) .inside
 
@@ -40,29 +22,9 @@ array-share-prefix-message c = held-message (c .before .before) .inside
 slice-aggregate-log-2 : tie.Need-slice-aggregate-log-2
 slice-aggregate-log-2 c = held-message (c .before .before .before) .count
 
-log-requires : tie.Need-log-requires
-log-requires c κs = search needs
-
-same-length : tie.Need-same-length
-same-length c = search needs
-
 returns : tie.Need-returns
 returns c = rw (held-logger (c .before .before .before .before .before .before .before .before .before .before .before) .bytes, held-message (c .before .before .before .before .before .before .before) .bytes) at (c .before .before .log .ensures)
 
 pub log-spec : {M : Type 1} → statement M
 log-spec =
-    tie.close
-    (tie.spec
-    slice-aggregate-put-bytes-of
-    word-requires
-    put-bytes-of-requires
-    slice-aggregate-put-bytes-of-2
-    word-requires-2
-    put-bytes-of-requires-2
-    array-share-prefix-logger
-    slice-aggregate-log
-    array-share-prefix-message
-    slice-aggregate-log-2
-    log-requires
-    same-length
-    returns)
+    tie.close (tie.spec (λ c. search needs) (λ c κs. search needs) (λ c κs. search needs) (λ c. search needs) (λ c κs. search needs) (λ c κs. search needs) array-share-prefix-logger slice-aggregate-log array-share-prefix-message slice-aggregate-log-2 (λ c κs. search needs) (λ c. search needs) returns)

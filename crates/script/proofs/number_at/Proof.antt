@@ -9,15 +9,9 @@ use Rattle.script.specs.Script.{numberAt}
 use Rattle.script.proofs.number_at.Statement.{statement}
 use Rattle.script.proofs.number_at.Tie as tie
 
-word-requires : tie.Need-word-requires
-word-requires c κs = search needs
-
-read-decimal-requires : tie.Need-read-decimal-requires
-read-decimal-requires c κs = search needs
-
 returns : tie.Need-returns
 unfolding numberAt
 returns c = c .read-decimal .ensures ∙ ap (λ (w : List ℕ). numberOf (readDecimal w)) (c .before .word .ensures)
 
 pub number-at-spec : {M : Type 1} → statement M
-number-at-spec = tie.close (tie.spec word-requires read-decimal-requires returns)
+number-at-spec = tie.close (tie.spec (λ c κs. search needs) (λ c κs. search needs) returns)

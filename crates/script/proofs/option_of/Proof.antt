@@ -10,15 +10,6 @@ use Rattle.script.proofs.ReadingLaws.{at-most-within}
 use Rattle.script.proofs.option_of.Statement.{statement}
 use Rattle.script.proofs.option_of.Tie as tie
 
-byte-number-requires : tie.Need-byte-number-requires
-byte-number-requires c κs = search needs
-
-enum-known-n : tie.Need-enum-known-n
-enum-known-n c = search needs
-
-enum-told : tie.Need-enum-told
-enum-told c = search needs
-
 returns : tie.Need-returns
 returns c = sym (ap (readingOf Choice) (sym (c .before .before .byte-number .ensures) ∙ c .enum-told .given .1))
 
@@ -30,4 +21,4 @@ returns-2 c = sym (ap (readingOf Choice) (sym (c .before .before .before .byte-n
 
 pub option-of-spec : {M : Type 1} → statement M
 option-of-spec =
-    tie.close (tie.spec byte-number-requires enum-known-n enum-told returns cast-t4 returns-2)
+    tie.close (tie.spec (λ c κs. search needs) (λ c. search needs) (λ c. search needs) returns cast-t4 returns-2)

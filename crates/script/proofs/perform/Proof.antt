@@ -7,31 +7,13 @@ use Rattle.script.proofs.ReplayLaws.{too-long, made}
 use Rattle.script.proofs.perform.Statement.{statement}
 use Rattle.script.proofs.perform.Tie as tie
 
-silent-requires : tie.Need-silent-requires
-silent-requires c κs = search needs
-
 returns : tie.Need-returns
 returns c =
     let s = c .before .before .before .before .args in
     too-long (s .state) (s .line .now) (s .out .now) (c .before .if1 .taken) (c .silent .ensures)
 
-command-of-requires : tie.Need-command-of-requires
-command-of-requires c κs = search needs
-
-lent-len-requires : tie.Need-lent-len-requires
-lent-len-requires c κs = search needs
-
-slice-relend-prefix-carry-out : tie.Need-slice-relend-prefix-carry-out
-slice-relend-prefix-carry-out c = search needs
-
 slice-aggregate-carry-out : tie.Need-slice-aggregate-carry-out
 slice-aggregate-carry-out c = sym (length-take-le _ _ (omega arith))
-
-carry-out-requires : tie.Need-carry-out-requires
-carry-out-requires c κs = search needs
-
-same-length : tie.Need-same-length
-same-length c = search needs
 
 returns-2 : tie.Need-returns-2
 returns-2 c =
@@ -40,14 +22,4 @@ returns-2 c =
 
 pub perform-spec : {M : Type 1} → statement M
 perform-spec =
-    tie.close
-    (tie.spec
-    silent-requires
-    returns
-    command-of-requires
-    lent-len-requires
-    slice-relend-prefix-carry-out
-    slice-aggregate-carry-out
-    carry-out-requires
-    same-length
-    returns-2)
+    tie.close (tie.spec (λ c κs. search needs) returns (λ c κs. search needs) (λ c κs. search needs) (λ c. search needs) slice-aggregate-carry-out (λ c κs. search needs) (λ c. search needs) returns-2)

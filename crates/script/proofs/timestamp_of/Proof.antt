@@ -6,15 +6,6 @@ use Rattle.script.specs.Script.{readingOf}
 use Rattle.script.proofs.timestamp_of.Statement.{statement}
 use Rattle.script.proofs.timestamp_of.Tie as tie
 
-read-decimal-requires : tie.Need-read-decimal-requires
-read-decimal-requires c κs = search needs
-
-enum-known-n : tie.Need-enum-known-n
-enum-known-n c = search needs
-
-enum-told : tie.Need-enum-told
-enum-told c = search needs
-
 returns : tie.Need-returns
 returns c = sym (ap (readingOf Timestamp) (sym (c .before .before .read-decimal .ensures) ∙ c .enum-told .given .1))
 
@@ -23,4 +14,4 @@ returns-2 c = sym (ap (readingOf Timestamp) (sym (c .before .before .before .rea
 
 pub timestamp-of-spec : {M : Type 1} → statement M
 timestamp-of-spec =
-    tie.close (tie.spec read-decimal-requires enum-known-n enum-told returns returns-2)
+    tie.close (tie.spec (λ c κs. search needs) (λ c. search needs) (λ c. search needs) returns returns-2)

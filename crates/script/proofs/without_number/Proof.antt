@@ -5,29 +5,11 @@ use Rattle.script.specs.Script.{withoutNumber}
 use Rattle.script.proofs.without_number.Statement.{statement}
 use Rattle.script.proofs.without_number.Tie as tie
 
-slice-aggregate-same : tie.Need-slice-aggregate-same
-slice-aggregate-same c = search needs
-
-same-requires : tie.Need-same-requires
-same-requires c κs = search needs
-
-without-value-requires : tie.Need-without-value-requires
-without-value-requires c κs = search needs
-
 returns : tie.Need-returns
 unfolding withoutNumber
 returns c =
     let c1 = c .before in
     rw (sym (c1 .before .same .ensures) ∙ c1 .if1 .taken) (c .without-value .ensures)
-
-slice-aggregate-same-2 : tie.Need-slice-aggregate-same-2
-slice-aggregate-same-2 c = search needs
-
-same-requires-2 : tie.Need-same-requires-2
-same-requires-2 c κs = search needs
-
-without-value-requires-2 : tie.Need-without-value-requires-2
-without-value-requires-2 c κs = search needs
 
 returns-2 : tie.Need-returns-2
 unfolding withoutNumber
@@ -35,15 +17,6 @@ returns-2 c =
     let c2 = c .before in
     let c1 = c2 .before .before .before in
     rw (sym (c1 .before .same .ensures) ∙ c1 .if1 .left, sym (c2 .before .same2 .ensures) ∙ c2 .if2 .taken) (c .without-value2 .ensures)
-
-slice-aggregate-same-3 : tie.Need-slice-aggregate-same-3
-slice-aggregate-same-3 c = search needs
-
-same-requires-3 : tie.Need-same-requires-3
-same-requires-3 c κs = search needs
-
-without-value-requires-3 : tie.Need-without-value-requires-3
-without-value-requires-3 c κs = search needs
 
 returns-3 : tie.Need-returns-3
 unfolding withoutNumber
@@ -62,18 +35,4 @@ returns-4 c =
 
 pub without-number-spec : {M : Type 1} → statement M
 without-number-spec =
-    tie.close
-    (tie.spec
-    slice-aggregate-same
-    same-requires
-    without-value-requires
-    returns
-    slice-aggregate-same-2
-    same-requires-2
-    without-value-requires-2
-    returns-2
-    slice-aggregate-same-3
-    same-requires-3
-    without-value-requires-3
-    returns-3
-    returns-4)
+    tie.close (tie.spec (λ c. search needs) (λ c κs. search needs) (λ c κs. search needs) returns (λ c. search needs) (λ c κs. search needs) (λ c κs. search needs) returns-2 (λ c. search needs) (λ c κs. search needs) (λ c κs. search needs) returns-3 returns-4)

@@ -4,12 +4,6 @@ use mathlib.Core.Path.{sym, _∙_}
 use Rattle.script.proofs.without_value.Statement.{statement}
 use Rattle.script.proofs.without_value.Tie as tie
 
-slice-aggregate-same : tie.Need-slice-aggregate-same
-slice-aggregate-same c = search needs
-
-same-requires : tie.Need-same-requires
-same-requires c κs = search needs
-
 returns : tie.Need-returns
 returns c = rw (sym (c .before .same .ensures) ∙ c .if1 .taken)
 
@@ -17,4 +11,4 @@ returns-2 : tie.Need-returns-2
 returns-2 c = rw (sym (c .before .same .ensures) ∙ c .if1 .left)
 
 pub without-value-spec : {M : Type 1} → statement M
-without-value-spec = tie.close (tie.spec slice-aggregate-same same-requires returns returns-2)
+without-value-spec = tie.close (tie.spec (λ c. search needs) (λ c κs. search needs) returns returns-2)

@@ -25,36 +25,9 @@ Inv-loop sheet count readings₀ j₀ readings j = (j ≤ 32) × (readings ≡ t
 abbrev μ-loop : tie.MeasureT-loop
 μ-loop sheet count readings₀ j₀ readings j = 32 - j
 
-cast-count : tie.Need-cast-count Inv-loop μ-loop
-cast-count c = search needs
-
-no-stored-requires : tie.Need-no-stored-requires Inv-loop μ-loop
-no-stored-requires c κs = search needs
-
 loop-holds : tie.Need-loop-holds Inv-loop μ-loop
 unfolding tabulate
 loop-holds c = (omega arith, rw (c .no-stored .ensures))
-
-mul-sensor : tie.Need-mul-sensor Inv-loop μ-loop
-mul-sensor c = search needs
-
-element-copy-out-sensor : tie.Need-element-copy-out-sensor Inv-loop μ-loop
-element-copy-out-sensor c = search needs
-
-fresh-stored-requires : tie.Need-fresh-stored-requires Inv-loop μ-loop
-fresh-stored-requires c κs = search needs
-
-mul-readings : tie.Need-mul-readings Inv-loop μ-loop
-mul-readings c = search needs
-
-array-set-from-readings : tie.Need-array-set-from-readings Inv-loop μ-loop
-array-set-from-readings c = search needs
-
-add-j : tie.Need-add-j Inv-loop μ-loop
-add-j c = search needs
-
-loop-less : tie.Need-loop-less Inv-loop μ-loop
-loop-less c = search needs
 
 loop-again : tie.Need-loop-again Inv-loop μ-loop
 loop-again c = (
@@ -71,19 +44,4 @@ returns c =
 
 pub fresh-readings-spec : {M : Type 1} → statement M
 fresh-readings-spec =
-    tie.close
-    (tie.spec
-    Inv-loop
-    μ-loop
-    cast-count
-    no-stored-requires
-    loop-holds
-    mul-sensor
-    element-copy-out-sensor
-    fresh-stored-requires
-    mul-readings
-    array-set-from-readings
-    add-j
-    loop-less
-    loop-again
-    returns)
+    tie.close (tie.spec Inv-loop μ-loop (λ c. search needs) (λ c κs. search needs) loop-holds (λ c. search needs) (λ c. search needs) (λ c κs. search needs) (λ c. search needs) (λ c. search needs) (λ c. search needs) (λ c. search needs) loop-again returns)

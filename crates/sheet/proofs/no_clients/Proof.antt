@@ -22,18 +22,6 @@ loop-holds : tie.Need-loop-holds Inv-loop μ-loop
 unfolding allBelow
 loop-holds c = (omega arith, refl)
 
-mul-client : tie.Need-mul-client Inv-loop μ-loop
-mul-client c = search needs
-
-array-copy-out-client : tie.Need-array-copy-out-client Inv-loop μ-loop
-array-copy-out-client c = search needs
-
-add-c : tie.Need-add-c Inv-loop μ-loop
-add-c c = search needs
-
-loop-less : tie.Need-loop-less Inv-loop μ-loop
-loop-less c = search needs
-
 loop-again : tie.Need-loop-again Inv-loop μ-loop
 unfolding allBelow
 loop-again c = (omega arith, rw (add-one, c .before .before .before .loop .inv .1))
@@ -44,14 +32,4 @@ returns c = let e : c .before .loop .c ≡ 8 = omega arith in rw (c .before .loo
 
 pub no-clients-spec : {M : Type 1} → statement M
 no-clients-spec =
-    tie.close
-    (tie.spec
-    Inv-loop
-    μ-loop
-    loop-holds
-    mul-client
-    array-copy-out-client
-    add-c
-    loop-less
-    loop-again
-    returns)
+    tie.close (tie.spec Inv-loop μ-loop loop-holds (λ c. search needs) (λ c. search needs) (λ c. search needs) (λ c. search needs) loop-again returns)

@@ -6,31 +6,16 @@ use Rattle.sheet.proofs.OpenLaws.{open-broken, open-good, open-faulty}
 use Rattle.sheet.proofs.open.Statement.{statement}
 use Rattle.sheet.proofs.open.Tie as tie
 
-sheet-at-requires : tie.Need-sheet-at-requires
-sheet-at-requires c κs = search needs
-
-refused-requires : tie.Need-refused-requires
-refused-requires c κs = search needs
-
 returns : tie.Need-returns
 returns c =
     let r = c .before .before .before .sheet-at in
     c .refused .ensures ∙ sym (open-broken _ (r .result) (r .ensures) (not-true (r .result .taken) (c .before .if1 .taken)))
-
-fresh-state-requires : tie.Need-fresh-state-requires
-fresh-state-requires c κs = search needs
-
-in-range-requires : tie.Need-in-range-requires
-in-range-requires c κs = search needs
 
 returns-2 : tie.Need-returns-2
 returns-2 c =
     let f = c .before .before in
     let r = f .before .before .before .before .before .before .sheet-at in
     sym (open-good _ (r .result) (r .ensures) (not-false (r .result .taken) (f .before .before .before .before .if1 .left)) _ (f .fresh-state .ensures) _ (c .before .in-range .ensures) (c .if2 .taken))
-
-refused-requires-2 : tie.Need-refused-requires-2
-refused-requires-2 c κs = search needs
 
 returns-3 : tie.Need-returns-3
 returns-3 c =
@@ -40,13 +25,4 @@ returns-3 c =
 
 pub open-spec : {M : Type 1} → statement M
 open-spec =
-    tie.close
-    (tie.spec
-    sheet-at-requires
-    refused-requires
-    returns
-    fresh-state-requires
-    in-range-requires
-    returns-2
-    refused-requires-2
-    returns-3)
+    tie.close (tie.spec (λ c κs. search needs) (λ c κs. search needs) returns (λ c κs. search needs) (λ c κs. search needs) returns-2 (λ c κs. search needs) returns-3)

@@ -6,21 +6,9 @@ use Rattle.sheet.proofs.FitsLaws.{or-never}
 use Rattle.sheet.proofs.pair_ok.Statement.{statement}
 use Rattle.sheet.proofs.pair_ok.Tie as tie
 
-sample-ok-requires : tie.Need-sample-ok-requires
-sample-ok-requires c κs = search needs
-
-strategy-ok-requires : tie.Need-strategy-ok-requires
-strategy-ok-requires c κs = search needs
-
 returns : tie.Need-returns
 unfolding pairNone reportedFits
 returns c = rw (c .before .before .before .if1 .taken, c .before .strategy-ok .ensures, c .before .before .sample-ok .ensures)
-
-is-none-requires : tie.Need-is-none-requires
-is-none-requires c κs = search needs
-
-sample-none-requires : tie.Need-sample-none-requires
-sample-none-requires c κs = search needs
 
 returns-2 : tie.Need-returns-2
 unfolding pairNone reportedFits
@@ -28,11 +16,4 @@ returns-2 c = rw (c .before .before .before .if1 .left, c .before .before .is-no
 
 pub pair-ok-spec : {M : Type 1} → statement M
 pair-ok-spec =
-    tie.close
-    (tie.spec
-    sample-ok-requires
-    strategy-ok-requires
-    returns
-    is-none-requires
-    sample-none-requires
-    returns-2)
+    tie.close (tie.spec (λ c κs. search needs) (λ c κs. search needs) returns (λ c κs. search needs) (λ c κs. search needs) returns-2)

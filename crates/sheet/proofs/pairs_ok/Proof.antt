@@ -20,33 +20,6 @@ loop-holds : tie.Need-loop-holds Inv-loop μ-loop
 unfolding allBelow
 loop-holds c = (omega arith, refl)
 
-mul-client : tie.Need-mul-client Inv-loop μ-loop
-mul-client c = search needs
-
-array-copy-out-client : tie.Need-array-copy-out-client Inv-loop μ-loop
-array-copy-out-client c = search needs
-
-mul-pair : tie.Need-mul-pair Inv-loop μ-loop
-mul-pair c = search needs
-
-array-copy-out-pair : tie.Need-array-copy-out-pair Inv-loop μ-loop
-array-copy-out-pair c = search needs
-
-array-read-pair-ok : tie.Need-array-read-pair-ok Inv-loop μ-loop
-array-read-pair-ok c = search needs
-
-array-read-pair-ok-2 : tie.Need-array-read-pair-ok-2 Inv-loop μ-loop
-array-read-pair-ok-2 c = search needs
-
-pair-ok-requires : tie.Need-pair-ok-requires Inv-loop μ-loop
-pair-ok-requires c κs = search needs
-
-add-p : tie.Need-add-p Inv-loop μ-loop
-add-p c = search needs
-
-loop-less : tie.Need-loop-less Inv-loop μ-loop
-loop-less c = search needs
-
 loop-again : tie.Need-loop-again Inv-loop μ-loop
 unfolding allBelow pairFits
 loop-again c = (omega arith, rw (add-one, c .before .before .before .before .before .loop .inv .1, c .pair-ok .ensures))
@@ -57,19 +30,4 @@ returns c = let e : c .before .loop .p ≡ 256 = omega arith in rw (c .before .l
 
 pub pairs-ok-spec : {M : Type 1} → statement M
 pairs-ok-spec =
-    tie.close
-    (tie.spec
-    Inv-loop
-    μ-loop
-    loop-holds
-    mul-client
-    array-copy-out-client
-    mul-pair
-    array-copy-out-pair
-    array-read-pair-ok
-    array-read-pair-ok-2
-    pair-ok-requires
-    add-p
-    loop-less
-    loop-again
-    returns)
+    tie.close (tie.spec Inv-loop μ-loop loop-holds (λ c. search needs) (λ c. search needs) (λ c. search needs) (λ c. search needs) (λ c. search needs) (λ c. search needs) (λ c κs. search needs) (λ c. search needs) (λ c. search needs) loop-again returns)

@@ -3,11 +3,8 @@ use borrow.Author.Needs.{needs}
 use Rattle.sheet.proofs.rates_ok.Statement.{statement}
 use Rattle.sheet.proofs.rates_ok.Tie as tie
 
-period-ok-requires : tie.Need-period-ok-requires
-period-ok-requires c κs = search needs
-
 returns : tie.Need-returns
 returns c = rw (c .period-ok .ensures)
 
 pub rates-ok-spec : {M : Type 1} → statement M
-rates-ok-spec = tie.close (tie.spec period-ok-requires returns)
+rates-ok-spec = tie.close (tie.spec (λ c κs. search needs) returns)

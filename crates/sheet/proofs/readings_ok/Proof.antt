@@ -20,27 +20,6 @@ loop-holds : tie.Need-loop-holds Inv-loop μ-loop
 unfolding allBelow
 loop-holds c = (omega arith, refl)
 
-mul-held : tie.Need-mul-held Inv-loop μ-loop
-mul-held c = search needs
-
-array-copy-out-held : tie.Need-array-copy-out-held Inv-loop μ-loop
-array-copy-out-held c = search needs
-
-array-read-stored-ok : tie.Need-array-read-stored-ok Inv-loop μ-loop
-array-read-stored-ok c = search needs
-
-array-read-stored-ok-2 : tie.Need-array-read-stored-ok-2 Inv-loop μ-loop
-array-read-stored-ok-2 c = search needs
-
-stored-ok-requires : tie.Need-stored-ok-requires Inv-loop μ-loop
-stored-ok-requires c κs = search needs
-
-add-j : tie.Need-add-j Inv-loop μ-loop
-add-j c = search needs
-
-loop-less : tie.Need-loop-less Inv-loop μ-loop
-loop-less c = search needs
-
 loop-again : tie.Need-loop-again Inv-loop μ-loop
 unfolding allBelow storedFits
 loop-again c = (omega arith, rw (add-one, c .before .before .before .loop .inv .1, c .stored-ok .ensures))
@@ -51,17 +30,4 @@ returns c = let e : c .before .loop .j ≡ 32 = omega arith in rw (c .before .lo
 
 pub readings-ok-spec : {M : Type 1} → statement M
 readings-ok-spec =
-    tie.close
-    (tie.spec
-    Inv-loop
-    μ-loop
-    loop-holds
-    mul-held
-    array-copy-out-held
-    array-read-stored-ok
-    array-read-stored-ok-2
-    stored-ok-requires
-    add-j
-    loop-less
-    loop-again
-    returns)
+    tie.close (tie.spec Inv-loop μ-loop loop-holds (λ c. search needs) (λ c. search needs) (λ c. search needs) (λ c. search needs) (λ c κs. search needs) (λ c. search needs) (λ c. search needs) loop-again returns)

@@ -5,19 +5,13 @@ use borrow.Author.Needs.{needs}
 use Rattle.sheet.proofs.sample_ok.Statement.{statement}
 use Rattle.sheet.proofs.sample_ok.Tie as tie
 
-number-fits-requires : tie.Need-number-fits-requires
-number-fits-requires c κs = search needs
-
 returns : tie.Need-returns
 unfolding sampleFits
 returns c = rw (eq-eqb _ _ (c .before .if1 .taken)) (c .number-fits .ensures)
-
-zero-of-requires : tie.Need-zero-of-requires
-zero-of-requires c κs = search needs
 
 returns-2 : tie.Need-returns-2
 unfolding sampleFits
 returns-2 c = rw (ne-eqb _ _ (c .before .before .before .if1 .left), c .before .zero-of .ensures)
 
 pub sample-ok-spec : {M : Type 1} → statement M
-sample-ok-spec = tie.close (tie.spec number-fits-requires returns zero-of-requires returns-2)
+sample-ok-spec = tie.close (tie.spec (λ c κs. search needs) returns (λ c κs. search needs) returns-2)

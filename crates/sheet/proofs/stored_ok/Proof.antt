@@ -4,18 +4,12 @@ use Rattle.machine.specs.Range.{storedNone}
 use Rattle.sheet.proofs.stored_ok.Statement.{statement}
 use Rattle.sheet.proofs.stored_ok.Tie as tie
 
-sample-ok-requires : tie.Need-sample-ok-requires
-sample-ok-requires c κs = search needs
-
 returns : tie.Need-returns
 returns c = cc
-
-sample-none-requires : tie.Need-sample-none-requires
-sample-none-requires c κs = search needs
 
 returns-2 : tie.Need-returns-2
 unfolding storedNone
 returns-2 c = cc
 
 pub stored-ok-spec : {M : Type 1} → statement M
-stored-ok-spec = tie.close (tie.spec sample-ok-requires returns sample-none-requires returns-2)
+stored-ok-spec = tie.close (tie.spec (λ c κs. search needs) returns (λ c κs. search needs) returns-2)

@@ -4,42 +4,6 @@ use Rattle.machine.specs.Range.{strategyOk}
 use Rattle.sheet.proofs.strategy_ok.Statement.{statement}
 use Rattle.sheet.proofs.strategy_ok.Tie as tie
 
-enum-told : tie.Need-enum-told
-enum-told c = search needs
-
-enum-told-2 : tie.Need-enum-told-2
-enum-told-2 c = search needs
-
-enum-known-strategy : tie.Need-enum-known-strategy
-enum-known-strategy c = search needs
-
-period-ok-requires : tie.Need-period-ok-requires
-period-ok-requires c κs = search needs
-
-enum-told-3 : tie.Need-enum-told-3
-enum-told-3 c = search needs
-
-enum-known-strategy-2 : tie.Need-enum-known-strategy-2
-enum-known-strategy-2 c = search needs
-
-difference-ok-requires : tie.Need-difference-ok-requires
-difference-ok-requires c κs = search needs
-
-enum-known-strategy-3 : tie.Need-enum-known-strategy-3
-enum-known-strategy-3 c = search needs
-
-rates-ok-requires : tie.Need-rates-ok-requires
-rates-ok-requires c κs = search needs
-
-enum-known-strategy-4 : tie.Need-enum-known-strategy-4
-enum-known-strategy-4 c = search needs
-
-difference-ok-requires-2 : tie.Need-difference-ok-requires-2
-difference-ok-requires-2 c κs = search needs
-
-rates-ok-requires-2 : tie.Need-rates-ok-requires-2
-rates-ok-requires-2 c κs = search needs
-
 returns : tie.Need-returns
 unfolding strategyOk
 returns c = rw (c .enum-told .given .1)
@@ -70,24 +34,4 @@ returns-7 c = rw (c .before .before .before .strategy4 .given .1, c .before .dif
 
 pub strategy-ok-spec : {M : Type 1} → statement M
 strategy-ok-spec =
-    tie.close
-    (tie.spec
-    enum-told
-    enum-told-2
-    enum-known-strategy
-    period-ok-requires
-    enum-told-3
-    enum-known-strategy-2
-    difference-ok-requires
-    enum-known-strategy-3
-    rates-ok-requires
-    enum-known-strategy-4
-    difference-ok-requires-2
-    rates-ok-requires-2
-    returns
-    returns-2
-    returns-3
-    returns-4
-    returns-5
-    returns-6
-    returns-7)
+    tie.close (tie.spec (λ c. search needs) (λ c. search needs) (λ c. search needs) (λ c κs. search needs) (λ c. search needs) (λ c. search needs) (λ c κs. search needs) (λ c. search needs) (λ c κs. search needs) (λ c. search needs) (λ c κs. search needs) (λ c κs. search needs) returns returns-2 returns-3 returns-4 returns-5 returns-6 returns-7)

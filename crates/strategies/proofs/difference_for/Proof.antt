@@ -4,19 +4,12 @@ use borrow.Author.Needs.{needs}
 use Rattle.strategies.proofs.difference_for.Statement.{statement}
 use Rattle.strategies.proofs.difference_for.Tie as tie
 
-read-integer-difference-requires : tie.Need-read-integer-difference-requires
-read-integer-difference-requires c κs = search needs
-
 returns : tie.Need-returns
 returns c = rw (eq-eqb _ 1 (c .before .if1 .taken), c .read-integer-difference .ensures)
-
-read-float-difference-requires : tie.Need-read-float-difference-requires
-read-float-difference-requires c κs = search needs
 
 returns-2 : tie.Need-returns-2
 returns-2 c = rw (ne-eqb _ 1 (c .before .if1 .left), c .read-float-difference .ensures)
 
 pub difference-for-spec : {M : Type 1} → statement M
 difference-for-spec =
-    tie.close
-    (tie.spec read-integer-difference-requires returns read-float-difference-requires returns-2)
+    tie.close (tie.spec (λ c κs. search needs) returns (λ c κs. search needs) returns-2)

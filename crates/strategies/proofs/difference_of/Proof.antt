@@ -6,18 +6,9 @@ use Rattle.machine.proofs.TestLaws.{cond-true}
 use Rattle.strategies.proofs.difference_of.Statement.{statement}
 use Rattle.strategies.proofs.difference_of.Tie as tie
 
-is-unsuited-requires : tie.Need-is-unsuited-requires
-is-unsuited-requires c κs = search needs
-
 returns : tie.Need-returns
 unfolding differenceFor differenceOf
 returns c = sym (cond-true _ _ _ (sym (c .before .is-unsuited .ensures) ∙ c .if1 .taken))
-
-first-type-requires : tie.Need-first-type-requires
-first-type-requires c κs = search needs
-
-difference-for-requires : tie.Need-difference-for-requires
-difference-for-requires c κs = search needs
 
 returns-2 : tie.Need-returns-2
 unfolding differenceFor differenceOf
@@ -25,5 +16,4 @@ returns-2 c = rw (c .difference-for .ensures, c .before .first-type .ensures, sy
 
 pub difference-of-spec : {M : Type 1} → statement M
 difference-of-spec =
-    tie.close
-    (tie.spec is-unsuited-requires returns first-type-requires difference-for-requires returns-2)
+    tie.close (tie.spec (λ c κs. search needs) returns (λ c κs. search needs) (λ c κs. search needs) returns-2)

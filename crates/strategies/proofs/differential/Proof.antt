@@ -6,12 +6,6 @@ use Rattle.strategies.specs.Settings.{made}
 use Rattle.strategies.proofs.differential.Statement.{statement}
 use Rattle.strategies.proofs.differential.Tie as tie
 
-enum-known-difference : tie.Need-enum-known-difference
-enum-known-difference c = search needs
-
-enum-told : tie.Need-enum-told
-enum-told c = search needs
-
 returns : tie.Need-returns
 unfolding made any strategyBy
 returns c = rw (c .enum-told .given .1)
@@ -21,4 +15,4 @@ unfolding made any strategyBy
 returns-2 c = rw (c .before .difference .given .1)
 
 pub differential-spec : {M : Type 1} → statement M
-differential-spec = tie.close (tie.spec enum-known-difference enum-told returns returns-2)
+differential-spec = tie.close (tie.spec (λ c. search needs) (λ c. search needs) returns returns-2)

@@ -6,31 +6,13 @@ use Rattle.strategies.specs.Settings.{made}
 use Rattle.strategies.proofs.differential_rate.Statement.{statement}
 use Rattle.strategies.proofs.differential_rate.Tie as tie
 
-enum-known-difference : tie.Need-enum-known-difference
-enum-known-difference c = search needs
-
-enum-told : tie.Need-enum-told
-enum-told c = search needs
-
 returns : tie.Need-returns
 unfolding made any strategyBy
 returns c = rw (c .enum-told .given .1)
 
-enum-known-shortest : tie.Need-enum-known-shortest
-enum-known-shortest c = search needs
-
-enum-told-2 : tie.Need-enum-told-2
-enum-told-2 c = search needs
-
 returns-2 : tie.Need-returns-2
 unfolding made any strategyBy
 returns-2 c = rw (c .before .before .before .difference .given .1, c .enum-told2 .given .1)
-
-enum-known-longest : tie.Need-enum-known-longest
-enum-known-longest c = search needs
-
-enum-told-3 : tie.Need-enum-told-3
-enum-told-3 c = search needs
 
 returns-3 : tie.Need-returns-3
 unfolding made any strategyBy
@@ -42,15 +24,4 @@ returns-4 c = rw (c .before .before .before .before .before .before .before .dif
 
 pub differential-rate-spec : {M : Type 1} → statement M
 differential-rate-spec =
-    tie.close
-    (tie.spec
-    enum-known-difference
-    enum-told
-    returns
-    enum-known-shortest
-    enum-told-2
-    returns-2
-    enum-known-longest
-    enum-told-3
-    returns-3
-    returns-4)
+    tie.close (tie.spec (λ c. search needs) (λ c. search needs) returns (λ c. search needs) (λ c. search needs) returns-2 (λ c. search needs) (λ c. search needs) returns-3 returns-4)

@@ -6,21 +6,9 @@ use Rattle.strategies.specs.Settings.{made}
 use Rattle.strategies.proofs.event_rate.Statement.{statement}
 use Rattle.strategies.proofs.event_rate.Tie as tie
 
-enum-known-shortest : tie.Need-enum-known-shortest
-enum-known-shortest c = search needs
-
-enum-told : tie.Need-enum-told
-enum-told c = search needs
-
 returns : tie.Need-returns
 unfolding made any strategyBy
 returns c = rw (c .enum-told .given .1)
-
-enum-known-longest : tie.Need-enum-known-longest
-enum-known-longest c = search needs
-
-enum-told-2 : tie.Need-enum-told-2
-enum-told-2 c = search needs
 
 returns-2 : tie.Need-returns-2
 unfolding made any strategyBy
@@ -32,12 +20,4 @@ returns-3 c = rw (c .before .before .before .before .shortest .given .1, c .befo
 
 pub event-rate-spec : {M : Type 1} → statement M
 event-rate-spec =
-    tie.close
-    (tie.spec
-    enum-known-shortest
-    enum-told
-    returns
-    enum-known-longest
-    enum-told-2
-    returns-2
-    returns-3)
+    tie.close (tie.spec (λ c. search needs) (λ c. search needs) returns (λ c. search needs) (λ c. search needs) returns-2 returns-3)

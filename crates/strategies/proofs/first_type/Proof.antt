@@ -9,21 +9,6 @@ use Rattle.strategies.proofs.TypeLaws.{type-at}
 use Rattle.strategies.proofs.first_type.Statement.{statement}
 use Rattle.strategies.proofs.first_type.Tie as tie
 
-shared-slice-read-j : tie.Need-shared-slice-read-j
-shared-slice-read-j c = search needs
-
-cast-sensor : tie.Need-cast-sensor
-cast-sensor c = search needs
-
-mul-sensor : tie.Need-mul-sensor
-mul-sensor c = search needs
-
-element-copy-out-sensor : tie.Need-element-copy-out-sensor
-element-copy-out-sensor c = search needs
-
-type-if-requires : tie.Need-type-if-requires
-type-if-requires c κs = search needs
-
 -- the first place, 0 where there is none
 first : (c : tie.Joined1) → c .if1 .j ≡ getD (c .before .before .args .places .now) 0 0
 first c =
@@ -38,11 +23,4 @@ returns c =
 
 pub first-type-spec : {M : Type 1} → statement M
 first-type-spec =
-    tie.close
-    (tie.spec
-    shared-slice-read-j
-    cast-sensor
-    mul-sensor
-    element-copy-out-sensor
-    type-if-requires
-    returns)
+    tie.close (tie.spec (λ c. search needs) (λ c. search needs) (λ c. search needs) (λ c. search needs) (λ c κs. search needs) returns)

@@ -6,12 +6,6 @@ use Rattle.strategies.specs.Settings.{made}
 use Rattle.strategies.proofs.periodic.Statement.{statement}
 use Rattle.strategies.proofs.periodic.Tie as tie
 
-enum-known-period : tie.Need-enum-known-period
-enum-known-period c = search needs
-
-enum-told : tie.Need-enum-told
-enum-told c = search needs
-
 returns : tie.Need-returns
 unfolding made any strategyBy
 returns c = rw (c .enum-told .given .1)
@@ -21,4 +15,4 @@ unfolding made any strategyBy
 returns-2 c = rw (c .before .period .given .1)
 
 pub periodic-spec : {M : Type 1} → statement M
-periodic-spec = tie.close (tie.spec enum-known-period enum-told returns returns-2)
+periodic-spec = tie.close (tie.spec (λ c. search needs) (λ c. search needs) returns returns-2)

@@ -5,21 +5,9 @@ use Rattle.machine.specs.Messages.{differenceText}
 use Rattle.strategies.proofs.put_arg_difference.Statement.{statement}
 use Rattle.strategies.proofs.put_arg_difference.Tie as tie
 
-put-arg-whole-difference-requires : tie.Need-put-arg-whole-difference-requires
-put-arg-whole-difference-requires c κs = search needs
-
-same-length : tie.Need-same-length
-same-length c = search needs
-
 returns : tie.Need-returns
 unfolding differenceText
 returns c = rw (eq-eqb _ 1 (c .before .before .before .before .if1 .taken)) (c .before .before .put-arg-whole-difference .ensures)
-
-put-arg-difference-requires : tie.Need-put-arg-difference-requires
-put-arg-difference-requires c κs = search needs
-
-same-length-2 : tie.Need-same-length-2
-same-length-2 c = search needs
 
 returns-2 : tie.Need-returns-2
 unfolding differenceText
@@ -27,11 +15,4 @@ returns-2 c = rw (ne-eqb _ 1 (c .before .before .before .before .if1 .left)) (c 
 
 pub put-arg-difference-spec : {M : Type 1} → statement M
 put-arg-difference-spec =
-    tie.close
-    (tie.spec
-    put-arg-whole-difference-requires
-    same-length
-    returns
-    put-arg-difference-requires
-    same-length-2
-    returns-2)
+    tie.close (tie.spec (λ c κs. search needs) (λ c. search needs) returns (λ c κs. search needs) (λ c. search needs) returns-2)

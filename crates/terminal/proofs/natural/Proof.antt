@@ -6,18 +6,6 @@ use borrow.Author.Needs.{needs}
 use Rattle.terminal.proofs.natural.Statement.{statement}
 use Rattle.terminal.proofs.natural.Tie as tie
 
-read-decimal-requires : tie.Need-read-decimal-requires
-read-decimal-requires c κs = search needs
-
-enum-known-n : tie.Need-enum-known-n
-enum-known-n c = search needs
-
-enum-told : tie.Need-enum-told
-enum-told c = search needs
-
-is-natural-requires : tie.Need-is-natural-requires
-is-natural-requires c κs = search needs
-
 returns : tie.Need-returns
 returns c = natural-bad (c .before .before .before .before .before .before .args .t .now) (readDecimal (c .before .before .before .before .before .before .args .t .now)) _ (sym (c .before .before .enum-told .given .1) ∙ c .before .before .before .before .read-decimal .ensures) (sym (c .before .is-natural .ensures) ∙ c .if1 .taken)
 
@@ -29,12 +17,4 @@ returns-3 c = natural-is (c .before .before .before .before .before .args .t .no
 
 pub natural-spec : {M : Type 1} → statement M
 natural-spec =
-    tie.close
-    (tie.spec
-    read-decimal-requires
-    enum-known-n
-    enum-told
-    is-natural-requires
-    returns
-    returns-2
-    returns-3)
+    tie.close (tie.spec (λ c κs. search needs) (λ c. search needs) (λ c. search needs) (λ c κs. search needs) returns returns-2 returns-3)

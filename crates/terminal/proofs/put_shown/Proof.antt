@@ -21,45 +21,6 @@ abbrev μ-loop : tie.MeasureT-loop
 loop-holds : tie.Need-loop-holds Inv-loop μ-loop
 loop-holds c = (omega arith, R.none-yet _ _)
 
-add-loop : tie.Need-add-loop Inv-loop μ-loop
-add-loop c = search needs
-
-add-from : tie.Need-add-from Inv-loop μ-loop
-add-from c = search needs
-
-add-line-end : tie.Need-add-line-end Inv-loop μ-loop
-add-line-end c = search needs
-
-shared-slice-read-line-end : tie.Need-shared-slice-read-line-end Inv-loop μ-loop
-shared-slice-read-line-end c = search needs
-
-add-line-end-2 : tie.Need-add-line-end-2 Inv-loop μ-loop
-add-line-end-2 c = search needs
-
-shared-slice-read-line-end-2 : tie.Need-shared-slice-read-line-end-2 Inv-loop μ-loop
-shared-slice-read-line-end-2 c = search needs
-
-line-end-requires : tie.Need-line-end-requires Inv-loop μ-loop
-line-end-requires c κs = search needs
-
-shared-slice-read-put-if : tie.Need-shared-slice-read-put-if Inv-loop μ-loop
-shared-slice-read-put-if c = search needs
-
-sub-put-if : tie.Need-sub-put-if Inv-loop μ-loop
-sub-put-if c = search needs
-
-part-put-if-start : tie.Need-part-put-if-start Inv-loop μ-loop
-part-put-if-start c = search needs
-
-part-put-if-end : tie.Need-part-put-if-end Inv-loop μ-loop
-part-put-if-end c = search needs
-
-put-if-requires : tie.Need-put-if-requires Inv-loop μ-loop
-put-if-requires c κs = search needs
-
-loop-less : tie.Need-loop-less Inv-loop μ-loop
-loop-less c = search needs
-
 loop-again : tie.Need-loop-again Inv-loop μ-loop
 loop-again c =
     let s = c .before .before .before .before .before .before .before .before .before .before .before .before .before .args .bytes .now in
@@ -82,24 +43,4 @@ returns c =
 
 pub put-shown-spec : {M : Type 1} → statement M
 put-shown-spec =
-    tie.close
-    (tie.spec
-    Inv-loop
-    μ-loop
-    loop-holds
-    add-loop
-    add-from
-    add-line-end
-    shared-slice-read-line-end
-    add-line-end-2
-    shared-slice-read-line-end-2
-    line-end-requires
-    shared-slice-read-put-if
-    sub-put-if
-    part-put-if-start
-    part-put-if-end
-    put-if-requires
-    loop-less
-    loop-again
-    same-length
-    returns)
+    tie.close (tie.spec Inv-loop μ-loop loop-holds (λ c. search needs) (λ c. search needs) (λ c. search needs) (λ c. search needs) (λ c. search needs) (λ c. search needs) (λ c κs. search needs) (λ c. search needs) (λ c. search needs) (λ c. search needs) (λ c. search needs) (λ c κs. search needs) (λ c. search needs) loop-again same-length returns)

@@ -3,18 +3,6 @@ use borrow.Author.Needs.{needs}
 use Rattle.terminal.proofs.tick_entry.Statement.{statement}
 use Rattle.terminal.proofs.tick_entry.Tie as tie
 
-word-requires : tie.Need-word-requires
-word-requires c κs = search needs
-
-natural-requires : tie.Need-natural-requires
-natural-requires c κs = search needs
-
-enum-known-ms : tie.Need-enum-known-ms
-enum-known-ms c = search needs
-
-enum-told : tie.Need-enum-told
-enum-told c = search needs
-
 returns : tie.Need-returns
 returns c = rw (← c .before .before .before .word .ensures, ← c .before .before .natural .ensures, c .enum-told .given .1)
 
@@ -23,4 +11,4 @@ returns-2 c = rw (← c .before .before .before .before .word .ensures, ← c .b
 
 pub tick-entry-spec : {M : Type 1} → statement M
 tick-entry-spec =
-    tie.close (tie.spec word-requires natural-requires enum-known-ms enum-told returns returns-2)
+    tie.close (tie.spec (λ c κs. search needs) (λ c κs. search needs) (λ c. search needs) (λ c. search needs) returns returns-2)

@@ -16,14 +16,8 @@ Inv-loop t most n₀ i₀ n i = (i ≤ length t) × (n ≤ most) × (min (valueF
 abbrev μ-loop : tie.MeasureT-loop
 μ-loop t most n₀ i₀ n i = length t - i
 
-loop-holds : tie.Need-loop-holds Inv-loop μ-loop
-loop-holds c = search needs
-
 shared-slice-read-with-digit : tie.Need-shared-slice-read-with-digit Inv-loop μ-loop
 shared-slice-read-with-digit c = omega arith
-
-with-digit-requires : tie.Need-with-digit-requires Inv-loop μ-loop
-with-digit-requires c κs = search needs
 
 add-i : tie.Need-add-i Inv-loop μ-loop
 add-i c = omega arith
@@ -45,14 +39,4 @@ returns c =
 
 pub digits-value-spec : {M : Type 1} → statement M
 digits-value-spec =
-    tie.close
-    (tie.spec
-    Inv-loop
-    μ-loop
-    loop-holds
-    shared-slice-read-with-digit
-    with-digit-requires
-    add-i
-    loop-less
-    loop-again
-    returns)
+    tie.close (tie.spec Inv-loop μ-loop (λ c. search needs) shared-slice-read-with-digit (λ c κs. search needs) add-i loop-less loop-again returns)

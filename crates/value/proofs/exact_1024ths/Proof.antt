@@ -21,11 +21,8 @@ returns c = sym (ap exact1024 (differs-from-itself (c .before .args .x) (subst T
 float-to-bits-bits : tie.Need-float-to-bits-bits
 float-to-bits-bits c = no-nan (c .before .args .x) (c .if1 .left)
 
-fit-bits-requires : tie.Need-fit-bits-requires
-fit-bits-requires c κs = search needs
-
 returns-2 : tie.Need-returns-2
 returns-2 c = c .fit-bits .ensures ∙ ap exact1024 (ofBits-toBits binary64 (c .before .before .args .x) (held (c .before .before)))
 
 pub exact-1024ths-spec : {M : Type 1} → statement M
-exact-1024ths-spec = tie.close (tie.spec returns float-to-bits-bits fit-bits-requires returns-2)
+exact-1024ths-spec = tie.close (tie.spec returns float-to-bits-bits (λ c κs. search needs) returns-2)

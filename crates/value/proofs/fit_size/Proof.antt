@@ -7,20 +7,11 @@ use Rattle.value.proofs.fit_size.Tie as tie
 returns : tie.Need-returns
 returns c = simp (lt-leb _ _ (c .if1 .taken))
 
-cast-size : tie.Need-cast-size
-cast-size c = search needs
-
-sub-t5 : tie.Need-sub-t5
-sub-t5 c = search needs
-
 returns-2 : tie.Need-returns-2
 returns-2 c = simp (le-leb _ _ (c .before .if1 .left), c .if2 .taken)
-
-add-t6 : tie.Need-add-t6
-add-t6 c = search needs
 
 returns-3 : tie.Need-returns-3
 returns-3 c = simp (le-leb _ _ (c .before .if1 .left), c .if2 .left)
 
 pub fit-size-spec : {M : Type 1} → statement M
-fit-size-spec = tie.close (tie.spec returns cast-size sub-t5 returns-2 add-t6 returns-3)
+fit-size-spec = tie.close (tie.spec returns (λ c. search needs) (λ c. search needs) returns-2 (λ c. search needs) returns-3)

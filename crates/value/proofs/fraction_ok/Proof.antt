@@ -7,15 +7,6 @@ use Rattle.value.proofs.fraction_ok.Tie as tie
 returns : tie.Need-returns
 returns c = fraction-none (c .before .before .args .s .now) (c .if1 .taken)
 
-behind-point-requires : tie.Need-behind-point-requires
-behind-point-requires c κs = search needs
-
-shared-slice-read-result : tie.Need-shared-slice-read-result
-shared-slice-read-result c = search needs
-
-digits-len-requires : tie.Need-digits-len-requires
-digits-len-requires c κs = search needs
-
 returns-2 : tie.Need-returns-2
 returns-2 c =
     let b = c .before .before in
@@ -23,5 +14,4 @@ returns-2 c =
 
 pub fraction-ok-spec : {M : Type 1} → statement M
 fraction-ok-spec =
-    tie.close
-    (tie.spec returns behind-point-requires shared-slice-read-result digits-len-requires returns-2)
+    tie.close (tie.spec returns (λ c κs. search needs) (λ c. search needs) (λ c κs. search needs) returns-2)

@@ -5,11 +5,8 @@ use Rattle.value.specs.Reading.{sample}
 use Rattle.value.proofs.invalid_sample.Statement.{statement}
 use Rattle.value.proofs.invalid_sample.Tie as tie
 
-zero-of-requires : tie.Need-zero-of-requires
-zero-of-requires c κs = search needs
-
 returns : tie.Need-returns
 returns c = ap (sample (c .before .args .code)) (c .zero-of .ensures)
 
 pub invalid-sample-spec : {M : Type 1} → statement M
-invalid-sample-spec = tie.close (tie.spec zero-of-requires returns)
+invalid-sample-spec = tie.close (tie.spec (λ c κs. search needs) returns)

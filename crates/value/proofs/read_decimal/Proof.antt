@@ -50,9 +50,6 @@ number c =
     let d = b .before .before .before .before .before .before in
     counted-is (d .before .before .args .t .now) (d .digits-len .result) (d .digits-len .ensures) (d .before .before .args .places) (b .behind-point .result .now) _ _ _ _ (behind b) (c .before .before .before .digits-value .ensures) (c .before .before .scaled .ensures) (c .before .digits-value2 .ensures) (c .scaled2 .ensures)
 
-digits-len-requires : tie.Need-digits-len-requires
-digits-len-requires c κs = search needs
-
 slice-aggregate-whole : tie.Need-slice-aggregate-whole
 slice-aggregate-whole c = sym (length-take-le _ _ (within (c .before)))
 
@@ -62,42 +59,15 @@ sub-behind c = within (c .before)
 part-behind-start : tie.Need-part-behind-start
 part-behind-start c = within (c .before)
 
-part-behind-end : tie.Need-part-behind-end
-part-behind-end c = search needs
-
-whole-ok-requires : tie.Need-whole-ok-requires
-whole-ok-requires c κs = search needs
-
-fraction-ok-requires : tie.Need-fraction-ok-requires
-fraction-ok-requires c κs = search needs
-
 returns : tie.Need-returns
 returns c =
     let s = start (c .before) .args in
     not-plain (s .places) (s .least) (s .most) (s .t .now) (sym (plain (c .before)) ∙ not-true _ (c .if1 .taken))
 
-behind-point-requires : tie.Need-behind-point-requires
-behind-point-requires c κs = search needs
-
 returns-2 : tie.Need-returns-2
 returns-2 c =
     let s = start (c .before .before .before) .args in
     too-long (s .places) (s .least) (s .most) (s .t .now) (is-plain (c .before .before)) (omega (arith, c .if2 .taken, ap length (behind (c .before))))
-
-digits-value-requires : tie.Need-digits-value-requires
-digits-value-requires c κs = search needs
-
-scaled-requires : tie.Need-scaled-requires
-scaled-requires c κs = search needs
-
-digits-value-requires-2 : tie.Need-digits-value-requires-2
-digits-value-requires-2 c κs = search needs
-
-sub-scaled : tie.Need-sub-scaled
-sub-scaled c = search needs
-
-scaled-requires-2 : tie.Need-scaled-requires-2
-scaled-requires-2 c κs = search needs
 
 add-number : tie.Need-add-number
 add-number c =
@@ -117,23 +87,4 @@ returns-4 c =
 
 pub read-decimal-spec : {M : Type 1} → statement M
 read-decimal-spec =
-    tie.close
-    (tie.spec
-    digits-len-requires
-    slice-aggregate-whole
-    sub-behind
-    part-behind-start
-    part-behind-end
-    whole-ok-requires
-    fraction-ok-requires
-    returns
-    behind-point-requires
-    returns-2
-    digits-value-requires
-    scaled-requires
-    digits-value-requires-2
-    sub-scaled
-    scaled-requires-2
-    add-number
-    returns-3
-    returns-4)
+    tie.close (tie.spec (λ c κs. search needs) slice-aggregate-whole sub-behind part-behind-start (λ c. search needs) (λ c κs. search needs) (λ c κs. search needs) returns (λ c κs. search needs) returns-2 (λ c κs. search needs) (λ c κs. search needs) (λ c κs. search needs) (λ c. search needs) (λ c κs. search needs) add-number returns-3 returns-4)

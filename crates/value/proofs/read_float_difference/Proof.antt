@@ -4,12 +4,9 @@ use borrow.Author.Needs.{needs}
 use Rattle.value.proofs.read_float_difference.Statement.{statement}
 use Rattle.value.proofs.read_float_difference.Tie as tie
 
-read-decimal-requires : tie.Need-read-decimal-requires
-read-decimal-requires c κs = search needs
-
 returns : tie.Need-returns
 unfolding floatDifferenceOf
 returns c = c .read-decimal .ensures
 
 pub read-float-difference-spec : {M : Type 1} → statement M
-read-float-difference-spec = tie.close (tie.spec read-decimal-requires returns)
+read-float-difference-spec = tie.close (tie.spec (λ c κs. search needs) returns)

@@ -6,15 +6,6 @@ use borrow.Author.Needs.{needs}
 use Rattle.value.proofs.read_integer_difference.Statement.{statement}
 use Rattle.value.proofs.read_integer_difference.Tie as tie
 
-read-decimal-requires : tie.Need-read-decimal-requires
-read-decimal-requires c κs = search needs
-
-enum-known-n : tie.Need-enum-known-n
-enum-known-n c = search needs
-
-enum-told : tie.Need-enum-told
-enum-told c = search needs
-
 returns : tie.Need-returns
 returns c = in-millionths _ (c .before .before .before .before .args .t .now) (sym (c .enum-told .given .1) ∙ c .before .before .read-decimal .ensures)
 
@@ -27,4 +18,4 @@ returns-2 c = in-millionths _ (c .before .before .before .before .before .args .
 
 pub read-integer-difference-spec : {M : Type 1} → statement M
 read-integer-difference-spec =
-    tie.close (tie.spec read-decimal-requires enum-known-n enum-told returns mul-t4 returns-2)
+    tie.close (tie.spec (λ c κs. search needs) (λ c. search needs) (λ c. search needs) returns mul-t4 returns-2)

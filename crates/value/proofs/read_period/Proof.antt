@@ -4,12 +4,9 @@ use borrow.Author.Needs.{needs}
 use Rattle.value.proofs.read_period.Statement.{statement}
 use Rattle.value.proofs.read_period.Tie as tie
 
-read-decimal-requires : tie.Need-read-decimal-requires
-read-decimal-requires c κs = search needs
-
 returns : tie.Need-returns
 unfolding periodOf
 returns c = c .read-decimal .ensures
 
 pub read-period-spec : {M : Type 1} → statement M
-read-period-spec = tie.close (tie.spec read-decimal-requires returns)
+read-period-spec = tie.close (tie.spec (λ c κs. search needs) returns)

@@ -4,12 +4,9 @@ use borrow.Author.Needs.{needs}
 use Rattle.value.proofs.read_shortest.Statement.{statement}
 use Rattle.value.proofs.read_shortest.Tie as tie
 
-read-decimal-requires : tie.Need-read-decimal-requires
-read-decimal-requires c κs = search needs
-
 returns : tie.Need-returns
 unfolding shortestOf
 returns c = c .read-decimal .ensures
 
 pub read-shortest-spec : {M : Type 1} → statement M
-read-shortest-spec = tie.close (tie.spec read-decimal-requires returns)
+read-shortest-spec = tie.close (tie.spec (λ c κs. search needs) returns)

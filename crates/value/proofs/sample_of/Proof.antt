@@ -12,78 +12,6 @@ use Rattle.value.proofs.SignedLaws.{fits-signed32}
 use Rattle.value.proofs.sample_of.Statement.{statement}
 use Rattle.value.proofs.sample_of.Tie as tie
 
-enum-known-reading : tie.Need-enum-known-reading
-enum-known-reading c = search needs
-
-biased-integer-requires : tie.Need-biased-integer-requires
-biased-integer-requires c κs = search needs
-
-valid-sample-requires : tie.Need-valid-sample-requires
-valid-sample-requires c κs = search needs
-
-only-for-requires : tie.Need-only-for-requires
-only-for-requires c κs = search needs
-
-enum-known-reading-2 : tie.Need-enum-known-reading-2
-enum-known-reading-2 c = search needs
-
-float-sample-requires : tie.Need-float-sample-requires
-float-sample-requires c κs = search needs
-
-only-for-requires-2 : tie.Need-only-for-requires-2
-only-for-requires-2 c κs = search needs
-
-enum-known-reading-3 : tie.Need-enum-known-reading-3
-enum-known-reading-3 c = search needs
-
-cast-sample-below : tie.Need-cast-sample-below
-cast-sample-below c = search needs
-
-sample-below-requires : tie.Need-sample-below-requires
-sample-below-requires c κs = search needs
-
-only-for-requires-3 : tie.Need-only-for-requires-3
-only-for-requires-3 c κs = search needs
-
-enum-known-reading-4 : tie.Need-enum-known-reading-4
-enum-known-reading-4 c = search needs
-
-cast-sample-below-2 : tie.Need-cast-sample-below-2
-cast-sample-below-2 c = search needs
-
-sample-below-requires-2 : tie.Need-sample-below-requires-2
-sample-below-requires-2 c κs = search needs
-
-only-for-requires-4 : tie.Need-only-for-requires-4
-only-for-requires-4 c κs = search needs
-
-enum-known-reading-5 : tie.Need-enum-known-reading-5
-enum-known-reading-5 c = search needs
-
-sample-below-requires-3 : tie.Need-sample-below-requires-3
-sample-below-requires-3 c κs = search needs
-
-only-for-requires-5 : tie.Need-only-for-requires-5
-only-for-requires-5 c κs = search needs
-
-enum-told : tie.Need-enum-told
-enum-told c = search needs
-
-invalid-sample-requires : tie.Need-invalid-sample-requires
-invalid-sample-requires c κs = search needs
-
-enum-told-2 : tie.Need-enum-told-2
-enum-told-2 c = search needs
-
-invalid-sample-requires-2 : tie.Need-invalid-sample-requires-2
-invalid-sample-requires-2 c κs = search needs
-
-enum-told-3 : tie.Need-enum-told-3
-enum-told-3 c = search needs
-
-invalid-sample-requires-3 : tie.Need-invalid-sample-requires-3
-invalid-sample-requires-3 c κs = search needs
-
 returns : tie.Need-returns
 unfolding sampleOf
 returns c =
@@ -141,37 +69,4 @@ returns-8 c = cc
 
 pub sample-of-spec : {M : Type 1} → statement M
 sample-of-spec =
-    tie.close
-    (tie.spec
-    enum-known-reading
-    biased-integer-requires
-    valid-sample-requires
-    only-for-requires
-    enum-known-reading-2
-    float-sample-requires
-    only-for-requires-2
-    enum-known-reading-3
-    cast-sample-below
-    sample-below-requires
-    only-for-requires-3
-    enum-known-reading-4
-    cast-sample-below-2
-    sample-below-requires-2
-    only-for-requires-4
-    enum-known-reading-5
-    sample-below-requires-3
-    only-for-requires-5
-    enum-told
-    invalid-sample-requires
-    enum-told-2
-    invalid-sample-requires-2
-    enum-told-3
-    invalid-sample-requires-3
-    returns
-    returns-2
-    returns-3
-    returns-4
-    returns-5
-    returns-6
-    returns-7
-    returns-8)
+    tie.close (tie.spec (λ c. search needs) (λ c κs. search needs) (λ c κs. search needs) (λ c κs. search needs) (λ c. search needs) (λ c κs. search needs) (λ c κs. search needs) (λ c. search needs) (λ c. search needs) (λ c κs. search needs) (λ c κs. search needs) (λ c. search needs) (λ c. search needs) (λ c κs. search needs) (λ c κs. search needs) (λ c. search needs) (λ c κs. search needs) (λ c κs. search needs) (λ c. search needs) (λ c κs. search needs) (λ c. search needs) (λ c κs. search needs) (λ c. search needs) (λ c κs. search needs) returns returns-2 returns-3 returns-4 returns-5 returns-6 returns-7 returns-8)

@@ -13,9 +13,6 @@ Inv-loop n places m₀ i₀ m i = (i ≤ places) × (m ≡ n * 10 ^ i)
 abbrev μ-loop : tie.MeasureT-loop
 μ-loop n places m₀ i₀ m i = places - i
 
-loop-holds : tie.Need-loop-holds Inv-loop μ-loop
-loop-holds c = search needs
-
 mul-m : tie.Need-mul-m Inv-loop μ-loop
 mul-m c =
     let s = c .before .before in
@@ -40,4 +37,4 @@ returns c =
 
 pub scaled-spec : {M : Type 1} → statement M
 scaled-spec =
-    tie.close (tie.spec Inv-loop μ-loop loop-holds mul-m add-i loop-less loop-again returns)
+    tie.close (tie.spec Inv-loop μ-loop (λ c. search needs) mul-m add-i loop-less loop-again returns)

@@ -5,9 +5,6 @@ use Rattle.value.proofs.ValueLaws.{status-other}
 use Rattle.value.proofs.status_of.Statement.{statement}
 use Rattle.value.proofs.status_of.Tie as tie
 
-range-status-requires : tie.Need-range-status-requires
-range-status-requires c κs = search needs
-
 returns : tie.Need-returns
 unfolding statusOf
 returns c = rw (c .match .keys1)
@@ -31,4 +28,4 @@ returns-5 c =
 
 pub status-of-spec : {M : Type 1} → statement M
 status-of-spec =
-    tie.close (tie.spec range-status-requires returns returns-2 returns-3 returns-4 returns-5)
+    tie.close (tie.spec (λ c κs. search needs) returns returns-2 returns-3 returns-4 returns-5)

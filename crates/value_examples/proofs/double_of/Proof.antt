@@ -10,16 +10,10 @@ use lib.Ieee.Bits.{nanBits-above}
 use Rattle.value_examples.proofs.double_of.Statement.{statement}
 use Rattle.value_examples.proofs.double_of.Tie as tie
 
-returns : tie.Need-returns
-returns c = search needs
-
 float-from-bits-result : tie.Need-float-from-bits-result
 float-from-bits-result c =
     let n = c .before .args .bits in
     subst T (sym (ap not (nanBits-above binary64 n ∙ le-ltb 0x7ff0_0000_0000_0000 (n % 2 ^ 63) (c .if1 .left)))) tt
 
-returns-2 : tie.Need-returns-2
-returns-2 c = search needs
-
 pub double-of-spec : {M : Type 1} → statement M
-double-of-spec = tie.close (tie.spec returns float-from-bits-result returns-2)
+double-of-spec = tie.close (tie.spec (λ c. search needs) float-from-bits-result (λ c. search needs))
