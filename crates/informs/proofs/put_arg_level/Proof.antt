@@ -1,69 +1,32 @@
--- Each arm writes the word that `levelText` has for its number.
 use borrow.Author.Needs.{needs}
-use lib.ListN.{List·getD-eq-default}
-use Rattle.output.specs.Text.{text}
-use Rattle.output.proofs.OutputLaws.{same}
-use Rattle.output.proofs.TableLaws.{past-all}
-use Rattle.machine.specs.Messages.{levelText}
 use Rattle.informs.proofs.put_arg_level.Statement.{statement}
 use Rattle.informs.proofs.put_arg_level.Tie as tie
+use Rattle.informs.proofs.put_arg_level.Reads as reads
+use Rattle.informs.proofs.put_arg_level.Lts as lts
+use Rattle.message.proofs.put_arg.Reads as put-arg-reads
+use Rattle.texts.proofs.word_of.Reads as word-of-reads
 
-returns : tie.Need-returns
-unfolding levelText
-returns c = rw (c .before .before .before .before .before .match .keys1) (c .before .before .put-arg .ensures)
+-- src/lib.rt:80:46
+slice-aggregate-word-of : tie.Need-slice-aggregate-word-of
+slice-aggregate-word-of c = search needs
 
-returns-2 : tie.Need-returns-2
-unfolding levelText
-returns-2 c = rw (c .before .before .before .before .before .match .keys2) (c .before .before .put-arg2 .ensures)
+-- src/lib.rt:80:31
+word-of-requires : tie.Need-word-of-requires
+word-of-requires c κs = search needs
 
-returns-3 : tie.Need-returns-3
-unfolding levelText
-returns-3 c = rw (c .before .before .before .before .before .match .keys3) (c .before .before .put-arg3 .ensures)
+-- src/lib.rt:80:5
+put-arg-requires : tie.Need-put-arg-requires
+put-arg-requires c κs = search needs
 
-returns-4 : tie.Need-returns-4
-unfolding levelText
-returns-4 c = rw (c .before .before .before .before .before .match .keys4) (c .before .before .put-arg4 .ensures)
-
-returns-5 : tie.Need-returns-5
-unfolding levelText
-returns-5 c = rw (c .before .before .before .before .before .match .keys5) (c .before .before .put-arg5 .ensures)
-
-returns-6 : tie.Need-returns-6
-unfolding levelText
-returns-6 c = rw (c .before .before .before .before .before .match .keys6) (c .before .before .put-arg6 .ensures)
-
-returns-7 : tie.Need-returns-7
-unfolding levelText
-returns-7 c = rw (c .before .before .before .before .before .match .keys7) (c .before .before .put-arg7 .ensures)
-
-returns-8 : tie.Need-returns-8
-unfolding levelText
-returns-8 c =
-    rw (List·getD-eq-default _ (text "all") (past-all 7 (c .before .before .before .before .before .before .before .args .level) (c .before .before .before .before .before .match .rest))) (c .before .before .put-arg8 .ensures)
-
+-- src/lib.rt:77:1
 same-length : tie.Need-same-length
-same-length c = same (returns c)
+same-length c = search needs
 
-same-length-2 : tie.Need-same-length-2
-same-length-2 c = same (returns-2 c)
-
-same-length-3 : tie.Need-same-length-3
-same-length-3 c = same (returns-3 c)
-
-same-length-4 : tie.Need-same-length-4
-same-length-4 c = same (returns-4 c)
-
-same-length-5 : tie.Need-same-length-5
-same-length-5 c = same (returns-5 c)
-
-same-length-6 : tie.Need-same-length-6
-same-length-6 c = same (returns-6 c)
-
-same-length-7 : tie.Need-same-length-7
-same-length-7 c = same (returns-7 c)
-
-same-length-8 : tie.Need-same-length-8
-same-length-8 c = same (returns-8 c)
+-- src/lib.rt:77:1
+returns : tie.Need-returns
+returns c = ?
 
 pub put-arg-level-spec : {M : Type 1} → statement M
-put-arg-level-spec = tie.close (tie.spec (λ c. search needs) (λ c κs. search needs) (λ c. search needs) (λ c κs. search needs) (λ c. search needs) (λ c κs. search needs) (λ c. search needs) (λ c κs. search needs) (λ c. search needs) (λ c κs. search needs) (λ c. search needs) (λ c κs. search needs) (λ c. search needs) (λ c κs. search needs) (λ c. search needs) (λ c κs. search needs) same-length returns same-length-2 returns-2 same-length-3 returns-3 same-length-4 returns-4 same-length-5 returns-5 same-length-6 returns-6 same-length-7 returns-7 same-length-8 returns-8)
+put-arg-level-spec =
+    tie.close
+    (tie.spec slice-aggregate-word-of word-of-requires put-arg-requires same-length returns)
