@@ -73,13 +73,17 @@ pick-at (w ∷ (v ∷ ws)) zero h = refl
 pick-at (w ∷ (v ∷ ws)) (suc k) h = pick-at (v ∷ ws) k (omega arith)
 
 -- a place is that of a word, or their number
-pub place-few : (ws : List (List ℕ)) (word : List ℕ) → placeIn ws word ≤ length ws
+place-few : (ws : List (List ℕ)) (word : List ℕ) → placeIn ws word ≤ length ws
 place-few [] word = omega arith
 place-few (w ∷ ws) word = go (same w word) (place-few ws word)
   where
     go : (b : Bool) → placeIn ws word ≤ length ws → cond b 0 (suc (placeIn ws word)) ≤ suc (length ws)
     go true h = omega arith
     go false h = omega arith
+
+pub place-bound : (table word : List ℕ) {r : ℕ} → r ≡ placeOf table word → r ≤ wordCount table
+unfolding placeOf
+place-bound table word e = rw e (place-few (wordsOf table) word)
 
 -- the code's `&table[from..]`
 rest-len : (t : List ℕ) (from n : ℕ) → n ≡ length (upTo bar (take (length t - from) (drop from t))) → n ≡ length (upTo bar (drop from t))

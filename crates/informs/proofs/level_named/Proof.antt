@@ -1,26 +1,21 @@
+-- The place of the word in the table of levels.
 use borrow.Author.Needs.{needs}
+use mathlib.Core.Path.{_∙_}
+use Rattle.output.specs.Text.{text}
+use Rattle.texts.specs.Table.{wordOf}
+use Rattle.texts.proofs.TableLaws.{place-bound}
+use Rattle.machine.specs.Messages.{levelText}
+use Rattle.machine.specs.Requests.{levelOf}
+use Rattle.machine.proofs.WordTables.{place-first}
 use Rattle.informs.proofs.level_named.Statement.{statement}
 use Rattle.informs.proofs.level_named.Tie as tie
-use Rattle.informs.proofs.level_named.Reads as reads
-use Rattle.informs.proofs.level_named.Lts as lts
-use Rattle.texts.proofs.place_of.Reads as place-of-reads
 
--- src/lib.rt:87:21
-slice-aggregate-place-of : tie.Need-slice-aggregate-place-of
-slice-aggregate-place-of c = search needs
-
--- src/lib.rt:87:5
-place-of-requires : tie.Need-place-of-requires
-place-of-requires c κs = search needs
-
--- src/lib.rt:87:5
 cast-result : tie.Need-cast-result
-cast-result c = ?
+cast-result c = let h = place-bound (text "off|fatal|error|warn|info|debug|trace|all") _ (c .place-of .ensures) in search needs
 
--- src/lib.rt:84:1
 returns : tie.Need-returns
-returns c = ?
+unfolding levelOf levelText wordOf
+returns c = c .place-of .ensures ∙ place-first (text "off|fatal|error|warn|info|debug|trace|all") _
 
 pub level-named-spec : {M : Type 1} → statement M
-level-named-spec =
-    tie.close (tie.spec slice-aggregate-place-of place-of-requires cast-result returns)
+level-named-spec = tie.close (tie.spec (λ c. search needs) (λ c κs. search needs) cast-result returns)

@@ -1,0 +1,31 @@
+-- Each turn tells of the next request of the table.
+use borrow.Author.Needs.{needs}
+use Prim.Native.Nat.{_-_}
+use native.Mathlib.Omega.{arith}
+use Rattle.output.specs.Output.{output}
+use Rattle.message.proofs.DeliveryLaws.{kept}
+use Rattle.replies.proofs.RequestTable.{Helping, helping, helping-on, helped}
+use Rattle.replies.proofs.tell_requests.Statement.{statement}
+use Rattle.replies.proofs.tell_requests.Tie as tie
+
+abbrev Inv-loop : tie.InvT-loop
+Inv-loop out₀ client id count at₀ k₀ t8 out at k = Helping client id count (output out₀ 0) k (output out at)
+
+abbrev μ-loop : tie.MeasureT-loop
+μ-loop out₀ client id count at₀ k₀ t8 out at k = count - k
+
+loop-holds : tie.Need-loop-holds Inv-loop μ-loop
+loop-holds c = helping _ _ _ _ (c .word-count .ensures)
+
+loop-again : tie.Need-loop-again Inv-loop μ-loop
+loop-again c =
+    let told = c .before .before in
+    let word = told .before in
+    helping-on (word .before .before .before .before .loop .inv) (omega arith) (word .word-of .ensures) (told .tell-request .ensures)
+
+returns : tie.Need-returns Inv-loop μ-loop
+returns c = helped (c .before .loop .inv) (omega arith)
+
+pub tell-requests-spec : {M : Type 1} → statement M
+tell-requests-spec =
+    tie.close (tie.spec Inv-loop μ-loop (λ c. search needs) (λ c κs. search needs) loop-holds (λ c. search needs) (λ c κs. search needs) (λ c κs. search needs) (λ c. search needs) (λ c. search needs) loop-again (λ c. kept (returns c)) returns)
