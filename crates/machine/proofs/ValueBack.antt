@@ -1,11 +1,10 @@
 -- A sample's status and value, read back from their texts.
 use Prim.Native.Nat.{ℕ, _^_, _<_}
-use native.Mathlib.Omega.{arith}
 use mathlib.Core.Path.{_≡_, refl, ap, sym, _∙_}
 use mathlib.Core.Bool.{Bool, true, false, cond, _&&_}
 use mathlib.Core.Option.{some}
 use lib.Dec.{eqb, leb, ltb}
-use borrow.Author.Tests.{lt-ltb, leb-true, le-leb, eqb-true, eq-eqb, ltb-true}
+use borrow.Author.Tests.{lt-ltb, le-leb, eqb-true, eq-eqb, ltb-true}
 use Rattle.output.specs.Text.{same}
 use Rattle.output.specs.Number.{decimal, time, integer, float}
 use Rattle.output.specs.Read.{readTime, readInteger, readFloat, readBoolean}

@@ -9,6 +9,7 @@ use Rattle.output.specs.Text.{same, isDigit, all}
 use Rattle.output.specs.Read.{inInteger, inFloat}
 use Rattle.line.specs.Line.{letter}
 use Rattle.value.specs.declared.Limits.{Limits}
+use Rattle.value.specs.Reading.{isMeasured}
 use Rattle.machine.specs.declared.Choice.{Choice}
 use Rattle.machine.specs.declared.Sensor.{Sensor}
 use Rattle.machine.specs.declared.Sheet.{Sheet}
@@ -121,7 +122,7 @@ limitsFour t l =
 
 -- "Types 1, 2: a byte 0, 2 or 4, then so many"; the others have none
 unfoldable pub limitsOk : ℕ → Limits → Bool
-limitsOk t l = limitsNone l || (leb t 2 && (limitsTwo t l || limitsFour t l))
+limitsOk t l = limitsNone l || (isMeasured t && (limitsTwo t l || limitsFour t l))
 
 -- Options.
 
