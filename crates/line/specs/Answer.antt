@@ -25,9 +25,9 @@ answer malformed = Malformed
 answer (message m) = Told (header m)
 
 -- document 01's number for each answer: "line over 2,048 or no message", 12
-abbrev pub numberOf : Parsed → ℕ
-numberOf Malformed = 12
-numberOf (Told h) = 0
+abbrev pub parsedNumber : Parsed → ℕ
+parsedNumber Malformed = 12
+parsedNumber (Told h) = 0
 
 -- the same answer from the parts of a line, as the code finds them
 

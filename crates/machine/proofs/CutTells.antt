@@ -6,7 +6,7 @@ use mathlib.Core.Path.{_≡_, refl, ap, sym, _∙_, subst}
 use mathlib.Core.Bool.{Bool, true, false, cond, not, _&&_, _||_, true≢false}
 use mathlib.Core.List.{List, [], _∷_, _++_}
 use mathlib.Core.Option.{Option, none, some, Option·some-injective}
-use lib.Dec.{eqb, ltb}
+use lib.Dec.{ltb}
 use lib.ListN.{length}
 use borrow.Author.Tests.{ne-eqb, ltb-true, not-true}
 use Rattle.output.specs.Text.{text, same}
@@ -18,7 +18,7 @@ use Rattle.machine.specs.Places.{Each}
 use Rattle.machine.specs.Sheet.{sensorOf, placeOf}
 use Rattle.machine.specs.Requests.{argument}
 use Rattle.machine.specs.Declined.{Call}
-use Rattle.machine.specs.Reader.{News, Other, Impossible, Reported, SetTo, reportWith, reportRead, agreed, samplingNews, statusNamed, readValue, agrees, isNamed, isOk, news}
+use Rattle.machine.specs.Reader.{News, Other, Impossible, Reported, SetTo, Parts, isShaped, partsWith, partsOf, readValue, valued, reportOn, reportFrom, reportRead, agreed, samplingNews, agrees, isNamed, isOk, news}
 use Rattle.machine.specs.TwoDevices.{sheetOf, connects, connectedAtEnd, linesOf, withoutEnd}
 use Rattle.machine.specs.Tells.{newsIn, lineNews, showsClock, clockIn, lineClock, connectsIn}
 use Rattle.machine.specs.Cut.{isReport, goesOn, leavesOpen, nextClock, isSamplingOk, CutTells, upToLine, GaveLine}
@@ -51,25 +51,28 @@ impossible-of : (t : Option ℕ) → OfReport t Impossible
 impossible-of t = record { clocked = λ e. absurd (true≢false (sym e)); not-set = refl }
 
 module _ (sheet : Sheet) where
-  with-of : (j st : ℕ) (t v : Option ℕ) → OfReport t (reportWith j st t v)
-  with-of j st none v = impossible-of none
-  with-of j st (some t) none = impossible-of (some t)
-  with-of j st (some t) (some v) = record { clocked = λ _. refl; not-set = refl }
+  valued-of : (j : ℕ) (p : Parts) (v : Option ℕ) → OfReport (some (p .time)) (valued j p v)
+  valued-of j p none = impossible-of (some (p .time))
+  valued-of j p (some v) = record { clocked = λ _. refl; not-set = refl }
 
-  read-of : (m : Message) → OfReport (readTime (argument m 0)) (reportRead sheet m)
-  unfolding reportRead
-  read-of m = cond-either (OfReport (readTime (argument m 0)))
-      (eqb (length (m .args)) 5 && (eqb (m .id) 0 && (same (argument m 1) (text "1") && (ltb (placeOf sheet (argument m 2)) (sheet .count) && ltb (statusNamed (argument m 3)) 7))))
-      (reportWith j st (readTime (argument m 0)) value) Impossible (with-of j st (readTime (argument m 0)) value) (impossible-of (readTime (argument m 0)))
+  on-of : (p : Parts) → OfReport (some (p .time)) (reportOn sheet p)
+  unfolding reportOn
+  on-of p = cond-either (OfReport (some (p .time))) (ltb j (sheet .count)) (valued j p value) Impossible (valued-of j p value) (impossible-of (some (p .time)))
     where
       j : ℕ
-      j = placeOf sheet (argument m 2)
-
-      st : ℕ
-      st = statusNamed (argument m 3)
+      j = placeOf sheet (p .name)
 
       value : Option ℕ
-      value = readValue (sensorOf sheet j) (argument m 4)
+      value = readValue (sensorOf sheet j) (p .value)
+
+  with-of : (m : Message) (t : Option ℕ) → OfReport t (reportFrom sheet (partsWith m t))
+  with-of m none = impossible-of none
+  with-of m (some t) = on-of _
+
+  read-of : (m : Message) → OfReport (readTime (argument m 0)) (reportRead sheet m)
+  unfolding reportRead partsOf
+  read-of m = cond-either (λ o. OfReport (readTime (argument m 0)) (reportFrom sheet o)) (isShaped m) (partsWith m (readTime (argument m 0))) none
+      (with-of m (readTime (argument m 0))) (impossible-of (readTime (argument m 0)))
 
   agreed-of : (t : Option ℕ) (w : News) → OfReport t w → OfReport t (agreed sheet w)
   unfolding agreed

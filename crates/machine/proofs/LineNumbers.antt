@@ -9,6 +9,7 @@ use mathlib.Core.List.{List}
 use lib.ListN.{length, drop}
 use borrow.Author.Tests.{leb-true, ne-eqb}
 use Rattle.message.specs.Message.{Message}
+use Rattle.value.specs.Reading.{isMeasured}
 use Rattle.machine.specs.declared.Sheet.{Sheet}
 use Rattle.machine.specs.declared.Request.{Request}
 use Rattle.machine.specs.declared.Request.the-variants.{ClientList, Halt, Help, LogLevel, Restart, SensorList, SensorSampling, SensorValue, VersionList, Watchdog}
@@ -41,7 +42,7 @@ sampling-row sheet m =
     (cond-either OfRequest (ltb 1 (length (listed sheet m))) 15 0 refl refl)
     (cond-either OfRequest (leb 7 (kindAsked m)) 17 _ refl
     (cond-either OfRequest (not (eqb (length (m .args)) (2 + parameterCount (kindAsked m)))) 15 _ refl
-    (cond-either OfRequest (byDifference (kindAsked m) && any (λ j. leb 3 (sensorOf sheet j .kind)) (listed sheet m)) 18 _ refl
+    (cond-either OfRequest (byDifference (kindAsked m) && any (λ j. not (isMeasured (sensorOf sheet j .kind))) (listed sheet m)) 18 _ refl
     (cond-either OfRequest (any isBad (parametersOf sheet (listed sheet m) (kindAsked m) (drop 2 (m .args)))) 19 _ refl
     (cond-either OfRequest (shortestOverLongest (strategyMade sheet (listed sheet m) (kindAsked m) (drop 2 (m .args)))) 20 0 refl refl))))))
 

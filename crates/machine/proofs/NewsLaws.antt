@@ -4,6 +4,7 @@ use native.Mathlib.Omega.{arith}
 use mathlib.Core.Path.{_≡_, ap, _∙_}
 use mathlib.Core.Bool.{Bool, true, false}
 use mathlib.Core.List.{List, [], _∷_, map}
+use mathlib.Core.Option.{some}
 use lib.ListN.{length, getD, length-map}
 use borrow.Author.Tests.{lt-ltb, le-leb, eq-eqb}
 use Rattle.output.specs.Text.{text, all}
@@ -14,11 +15,11 @@ use Rattle.machine.specs.declared.Sensor.{Sensor}
 use Rattle.machine.specs.declared.Sheet.{Sheet}
 use Rattle.machine.specs.declared.Strategy.{Strategy}
 use Rattle.machine.specs.Places.{any, twice}
-use Rattle.machine.specs.Sheet.{sensorOf, placeOf, notOnSheet, sensorsOk}
+use Rattle.machine.specs.Sheet.{sensorOf, nameOf, placeOf, notOnSheet, sensorsOk}
 use Rattle.machine.specs.Range.{sampleOk, strategyOk}
-use Rattle.machine.specs.Messages.{statusFor, report, strategyText, strategyKind, parameterTexts, samplingReply, reportOf}
+use Rattle.machine.specs.Messages.{statusFor, valueFor, report, strategyText, strategyKind, parameterTexts, samplingReply, reportOf}
 use Rattle.machine.specs.Requests.{split, parameterCount, firstOf}
-use Rattle.machine.specs.Reader.{Reported, SetTo, Impossible, toldOf, agrees, reportRead, agreed, strategyNews, samplingNews, news}
+use Rattle.machine.specs.Reader.{Reported, SetTo, Impossible, toldOf, agrees, isShaped, partsOf, reportOn, reportRead, agreed, strategyNews, samplingNews, news}
 use Rattle.machine.proofs.TestLaws.{and-true, cond-true}
 use Rattle.machine.proofs.SheetLaws.{Sensors, sensors-out, place-of-name}
 use Rattle.machine.proofs.SamplingLaws.{split-some}
@@ -30,17 +31,26 @@ use Rattle.machine.specs.State.{present}
 
 -- Reports.
 
+-- the parts of a report, as written
+parts-of : (clock : ℕ) → clock ≤ 9999999999999 → (n : Sensor) (x : Sample)
+    → partsOf (report clock n x) ≡ some (record { time = clock; name = nameOf n; status = statusFor n x; value = valueFor n (x .number) })
+unfolding partsOf isShaped report
+parts-of clock t n x =
+    rw (
+      times .back clock (le-leb clock 9999999999999 t),
+      status-named (statusFor n x) (status-most n x),
+      lt-ltb (statusFor n x) 7 (status-most n x),
+    )
+
 -- what a report tells, limits apart
 pub report-read : (sheet : Sheet) → sensorsOk sheet ≡ true → (j : ℕ) → j < sheet .count → (clock : ℕ) → clock ≤ 9999999999999 → (x : Sample)
     → sampleOk (sensorOf sheet j) x ≡ true → reportRead sheet (report clock (sensorOf sheet j) x) ≡ Reported j (toldOf (sensorOf sheet j) clock x)
-unfolding reportRead report
+unfolding reportRead reportOn
 report-read sheet h j l clock t x ok =
     rw (
+      parts-of clock t n x,
       place-of-name sheet r j l,
-      status-named (statusFor n x) (status-most n x),
       lt-ltb j (sheet .count) l,
-      lt-ltb (statusFor n x) 7 (status-most n x),
-      times .back clock (le-leb clock 9999999999999 t),
       value-read n (r .sensor-is j l) (x .number) (sample-number n (r .sensor-is j l) x ok),
     )
   where

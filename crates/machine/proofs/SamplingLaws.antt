@@ -6,10 +6,11 @@ use mathlib.Core.Bool.{Bool, true, false, cond, not, _&&_, _||_}
 use mathlib.Core.List.{List, [], _∷_, map}
 use lib.Dec.{eqb, leb, ltb}
 use lib.ListN.{length, getD, drop, length-map}
-use borrow.Author.Tests.{leb-false, le-leb, ltb-false}
+use borrow.Author.Tests.{leb-false, le-leb, ltb-false, not-false}
 use Rattle.output.specs.Text.{all}
 use Rattle.message.specs.Message.{Message}
 use Rattle.value.specs.declared.Parameter.{Parameter}
+use Rattle.value.specs.Reading.{isMeasured}
 use Rattle.value.specs.Parameter.{periodOf, shortestOf}
 use Rattle.machine.specs.declared.Sheet.{Sheet}
 use Rattle.machine.specs.Places.{any, has, twice}
@@ -18,7 +19,7 @@ use Rattle.machine.specs.Range.{periodOk, ratesOk, differenceOk, strateg
 use Rattle.machine.specs.Requests.{listed, byDifference, parameterCount, isBad, numberOf, differenceOf, parametersOf, strategyBy, shortestOverLongest, strategyMade, kindAsked, strategyAsked, split, before, argument}
 use Rattle.machine.specs.Declined.{settingDeclined, samplingDeclined}
 use Rattle.machine.proofs.TestLaws.{and-in, and-false, or-false, passed, cond-false, eqb-refl}
-use Rattle.machine.proofs.SheetLaws.{Sensors, places-passed}
+use Rattle.machine.proofs.SheetLaws.{measured-most, Sensors, places-passed}
 use Rattle.machine.proofs.ParameterRange.{period-fits, differences-fit}
 use Prim.Native.Char.{code}
 use Rattle.machine.proofs.PlacesLaws.{all-of, none-has}
@@ -90,7 +91,7 @@ listed-below sheet m e j h = leb-false (sheet .count) j (none-has (notOnSheet sh
 -- what a list with a strategy has passed
 record Setting (sheet : Sheet) (m : Message) : Type 0 where
   strategy-known : kindAsked m < 7
-  measured : byDifference (kindAsked m) && any (λ j. leb 3 (sensorOf sheet j .kind)) (listed sheet m) ≡ false
+  measured : byDifference (kindAsked m) && any (λ j. not (isMeasured (sensorOf sheet j .kind))) (listed sheet m) ≡ false
   good : any isBad (parametersOf sheet (listed sheet m) (kindAsked m) (drop 2 (m .args))) ≡ false
   in-order : shortestOverLongest (strategyAsked sheet m) ≡ false
 
@@ -102,7 +103,7 @@ setting-passed sheet m e q =
     let c : own ≡ 0 = sym (cond-false (eqb (length (m .args)) 1) (cond (ltb 1 (length (listed sheet m))) 15 0) own q) ∙ rest in
     let d = passed (leb 7 (kindAsked m)) 17 _ (omega arith) c in
     let f = passed (not (eqb (length (m .args)) (2 + parameterCount (kindAsked m)))) 15 _ (omega arith) (d .1) in
-    let g = passed (byDifference (kindAsked m) && any (λ j. leb 3 (sensorOf sheet j .kind)) (listed sheet m)) 18 _ (omega arith) (f .1) in
+    let g = passed (byDifference (kindAsked m) && any (λ j. not (isMeasured (sensorOf sheet j .kind))) (listed sheet m)) 18 _ (omega arith) (f .1) in
     let h = passed (any isBad (parametersOf sheet (listed sheet m) (kindAsked m) (drop 2 (m .args)))) 19 _ (omega arith) (g .1) in
     let i = passed (shortestOverLongest (strategyAsked sheet m)) 20 0 (omega arith) (h .1) in
     record { strategy-known = leb-false 7 (kindAsked m) (d .0); measured = g .0; good = h .0; in-order = i .0 }
@@ -113,7 +114,7 @@ pub setting-suits : (sheet : Sheet) → Sensors sheet → (m : Message) → samp
 unfolding strategyAsked strategyMade
 setting-suits sheet r m e q j h =
     strategy-suits sheet (listed sheet m) (drop 2 (m .args)) j h (kindAsked m) (p .strategy-known) (r .sensor-is j (listed-below sheet m e j h) .kind-least)
-    (λ t. leb-false 3 (sensorOf sheet j .kind) (none-has (λ j. leb 3 (sensorOf sheet j .kind)) (listed sheet m) j (and-false (byDifference (kindAsked m)) _ (p .measured) t) h))
+    (λ t. omega (arith, measured-most (sensorOf sheet j .kind) (not-false _ (none-has (λ j. not (isMeasured (sensorOf sheet j .kind))) (listed sheet m) j (and-false (byDifference (kindAsked m)) _ (p .measured) t) h))))
     (p .good) (p .in-order)
   where
     p : Setting sheet m

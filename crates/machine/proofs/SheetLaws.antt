@@ -9,14 +9,20 @@ use lib.ListN.{getD, take, drop}
 use borrow.Author.Tests.{ltb-true, ltb-false, leb-true, leb-false, lt-ltb, eqb-true, eq-eqb, not-true}
 use Rattle.output.specs.Text.{same, all}
 use Rattle.output.proofs.TextLaws.{same-refl, same-true}
+use Rattle.value.specs.Reading.{isMeasured}
 use Rattle.machine.specs.declared.Choice.{Choice}
 use Rattle.machine.specs.declared.Sensor.{Sensor}
 use Rattle.machine.specs.declared.Sheet.{Sheet}
 use Rattle.machine.specs.Places.{any, allBelow, twice, Each}
 use Rattle.machine.specs.Sheet.{noChoice, sensorOf, nameOf, optionOf, placeOf, notOnSheet, distinct, textOk, nameByte, printable, zeroByte, sensorOk, sensorNone, sensorOkAt, sensorsOk, limitsOk, choiceNone, choiceOk, optionsOk}
 use Rattle.machine.specs.Declined.{placesDeclined}
-use Rattle.machine.proofs.TestLaws.{and-true, cond-true, passed}
+use Rattle.machine.proofs.TestLaws.{and-true, or-true, cond-true, passed}
 use Rattle.machine.proofs.PlacesLaws.{below-at, first-is, first-holds, each-weaker, each-any-false}
+
+-- a measured type is 1 or 2
+pub measured-most : (t : ℕ) → isMeasured t ≡ true → t ≤ 2
+unfolding isMeasured
+measured-most t h = or-true _ (eqb t 1) (eqb t 2) h (λ e. omega (arith, eqb-true t 1 e)) (λ e. omega (arith, eqb-true t 2 e))
 
 -- a text's bounds and bytes
 pub record Text (least most : ℕ) (is : ℕ → Bool) (len : ℕ) (bytes : List ℕ) : Type 0 where

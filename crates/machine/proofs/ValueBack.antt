@@ -1,17 +1,15 @@
 -- A sample's status and value, read back from their texts.
 use Prim.Native.Nat.{ℕ, _^_, _<_}
-use native.Mathlib.Omega.{arith}
 use mathlib.Core.Path.{_≡_, refl, ap, sym, _∙_}
 use mathlib.Core.Bool.{Bool, true, false, cond, _&&_}
 use mathlib.Core.Option.{some}
 use lib.Dec.{eqb, leb, ltb}
-use borrow.Author.Tests.{lt-ltb, leb-true, le-leb, eqb-true, eq-eqb, ltb-true}
+use borrow.Author.Tests.{lt-ltb, le-leb, eqb-true, eq-eqb, ltb-true}
 use Rattle.output.specs.Text.{same}
 use Rattle.output.specs.Number.{decimal, time, integer, float}
-use Rattle.output.specs.Read.{readTime, readInteger, readFloat}
+use Rattle.output.specs.Read.{readTime, readInteger, readFloat, readBoolean}
 use Rattle.output.proofs.TextLaws.{same-refl, same-true}
-use Rattle.output.proofs.ReadLaws.{value-decimal}
-use Rattle.output.proofs.ReadBack.{times, integers, floats}
+use Rattle.output.proofs.ReadBack.{booleans, times, integers, floats}
 use Rattle.value.specs.declared.Sample.{Sample}
 use Rattle.value.specs.Reading.{zeroOf, numberFits, sampleFits}
 use Rattle.value.specs.Status.{rangeStatus, statusText}
@@ -21,7 +19,7 @@ use Rattle.machine.specs.Places.{allBelow, firstBelow}
 use Rattle.machine.specs.Sheet.{optionOf}
 use Rattle.machine.specs.Range.{sampleOk}
 use Rattle.machine.specs.Messages.{statusFor, valueFor}
-use Rattle.machine.specs.Reader.{statusNamed, readBoolean, optionNamed, readOption, readValue, validStatus, agrees}
+use Rattle.machine.specs.Reader.{statusNamed, optionNamed, readOption, readValue, validStatus, agrees}
 use Rattle.machine.proofs.TestLaws.{and-true, and-in, cond-true, cond-false}
 use Rattle.machine.proofs.PlacesLaws.{below-at, first-is}
 use Rattle.machine.proofs.SheetLaws.{SensorRules}
@@ -72,10 +70,6 @@ option-read : (n : Sensor) → SensorRules n → (v : ℕ) → v < n .«option_c
 unfolding readOption
 option-read n r v h = rw (option-named n r v h, lt-ltb v (n .«option_count») h)
 
-boolean-read : (v : ℕ) → leb v 1 ≡ true → readBoolean (decimal v) ≡ some v
-unfolding readBoolean
-boolean-read v h = rw (value-decimal v (omega (arith, leb-true v 1 h)), h, same-refl (decimal v))
-
 -- a value of a sensor reads back
 pub value-read : (n : Sensor) → SensorRules n → (v : ℕ) → numberFits (n .kind) (n .«option_count») v ≡ true → readValue n (valueFor n v) ≡ some v
 unfolding readValue valueFor valueText numberFits
@@ -89,6 +83,6 @@ value-read n r v h = go (eqb (n .kind) 1) (eqb (n .kind) 2) (eqb (n .kind) 3) (e
         (readTime (cond a (integer v) (cond b (float v) (cond c (decimal v) (cond d (optionOf n v) (time v))))))))) ≡ some v
     go true b c d k = integers .back v k
     go false true c d k = floats .back v k
-    go false false true d k = boolean-read v k
+    go false false true d k = booleans .back v k
     go false false false true k = option-read n r v (ltb-true v (n .«option_count») k)
     go false false false false k = times .back v k

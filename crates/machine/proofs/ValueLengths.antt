@@ -12,7 +12,7 @@ use Rattle.output.specs.Read.{inInteger, inFloat}
 use Rattle.output.proofs.LengthLaws.{length-decimal, length-time, length-integer, length-float}
 use Rattle.value.specs.declared.Limits.{Limits}
 use Rattle.value.specs.declared.Sample.{Sample}
-use Rattle.value.specs.Reading.{numberFits}
+use Rattle.value.specs.Reading.{isMeasured, numberFits}
 use Rattle.value.specs.Value.{valueText}
 use Rattle.machine.specs.declared.Sensor.{Sensor}
 use Rattle.machine.specs.Places.{tabulate, Each}
@@ -21,7 +21,7 @@ use Rattle.machine.specs.Range.{sampleOk}
 use Rattle.machine.specs.Messages.{valueFor, limitNumbers, typeArgs}
 use Rattle.machine.proofs.TestLaws.{and-true, or-true, cond-true}
 use Rattle.machine.proofs.PlacesLaws.{length-tabulate, each-map, each-tabulate}
-use Rattle.machine.proofs.SheetLaws.{SensorRules}
+use Rattle.machine.proofs.SheetLaws.{measured-most, SensorRules}
 use Rattle.machine.proofs.SampleRange.{sample-number}
 use Rattle.machine.proofs.LineLengths.{text-short, argsMost, args-short}
 
@@ -94,9 +94,9 @@ module _ (P : ℕ → Type 0) (t : ℕ) (l : Limits) (f : (v : ℕ) → limitOk 
 -- what is said of each number that can be a limit of type t
 each-limit : (P : ℕ → Type 0) (t : ℕ) (l : Limits) → limitsOk t l ≡ true → (t ≤ 2 → (v : ℕ) → limitOk t v ≡ true → P v) → Each P (limitNumbers l)
 unfolding limitsOk
-each-limit P t l h f = or-true _ (limitsNone l) (leb t 2 && (limitsTwo t l || limitsFour t l)) h (each-none P l) (λ k.
-    let q = and-true (leb t 2) (limitsTwo t l || limitsFour t l) k in
-    let g = f (leb-true t 2 (q .0)) in
+each-limit P t l h f = or-true _ (limitsNone l) (isMeasured t && (limitsTwo t l || limitsFour t l)) h (each-none P l) (λ k.
+    let q = and-true (isMeasured t) (limitsTwo t l || limitsFour t l) k in
+    let g = f (measured-most t (q .0)) in
     or-true _ (limitsTwo t l) (limitsFour t l) (q .1) (each-two P t l g) (each-four P t l g))
 
 -- limits or options

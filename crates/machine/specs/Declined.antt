@@ -2,24 +2,28 @@
 use Prim.Native.Nat.{ℕ, _+_}
 use mathlib.Core.Bool.{Bool, cond, not, _&&_, _||_}
 use mathlib.Core.List.{List, [], _∷_}
-use mathlib.Core.Option.{Option, none, some}
+use mathlib.Core.Option.{Option}
 use lib.Dec.{eqb, leb, ltb}
 use lib.ListN.{length, drop}
 use Rattle.output.specs.Read.{inTime}
 use Rattle.message.specs.Message.{Message}
 use Rattle.message.specs.Delivery.{Delivery, to}
+use Rattle.line.specs.declared.Parsed.the-variants.{Malformed}
+use Rattle.line.specs.Answer.{parsedNumber}
+use Rattle.value.specs.declared.Parameter.the-variants.{Bad}
 use Rattle.value.specs.declared.Reading.{Reading as Given}
-use Rattle.value.specs.Reading.{sampleOf}
-use Rattle.value.specs.Answer.{sampledNumber}
+use Rattle.value.specs.Reading.{sampleOf, isMeasured}
+use Rattle.value.specs.Answer.{sampledNumber, parameterNumber}
 use Rattle.machine.specs.declared.Sheet.{Sheet}
 use Rattle.machine.specs.declared.State.{State}
 use Rattle.machine.specs.declared.Request.{Request}
 use Rattle.machine.specs.declared.Request.the-variants.{ClientList, Halt, Help, LogLevel, Restart, SensorList, SensorSampling, SensorValue, VersionList, Watchdog}
+use Rattle.machine.specs.declared.Found.{Found}
 use Rattle.machine.specs.Places.{any, twice}
 use Rattle.machine.specs.Sheet.{sensorOf, notOnSheet, graphic, printable, nameByte, textFits}
 use Rattle.machine.specs.State.{connected}
 use Rattle.machine.specs.Range.{inRange}
-use Rattle.machine.specs.Requests.{Asked, Nothing, NotMessage, Reply, Unknown, Asks, asked, argument, askedPlaces, requestNamed, levelOf, listed, kindAsked, parameterCount, byDifference, isBad, parametersOf, strategyMade, shortestOverLongest}
+use Rattle.machine.specs.Requests.{Asked, Nothing, NotMessage, Reply, Unknown, Asks, asked, argument, askedPlaces, requestNamed, found, foundNumber, levelOf, listed, kindAsked, parameterCount, byDifference, isBad, parametersOf, strategyMade, shortestOverLongest}
 use Rattle.machine.specs.Messages.{refusalEntry, refusalReply}
 
 -- What is asked of the unit: the calls but opening, with their arguments.
@@ -88,16 +92,15 @@ sensorsDeclined sheet m = placesDeclined sheet (askedPlaces sheet m) 0
 
 -- "help on unknown name", 23
 abbrev pub helpDeclined : Option Request → ℕ
-helpDeclined none = 23
-helpDeclined (some r) = 0
+helpDeclined o = foundNumber 23 (found o)
 
 -- a list with a strategy: "17, 15 (parameters), 18, 19, 20"; of the places js, with n arguments, ts behind the strategy's word
 unfoldable pub settingDeclined : Sheet → List ℕ → ℕ → ℕ → List (List ℕ) → ℕ
 settingDeclined sheet js k n ts =
     cond (leb 7 k) 17
     (cond (not (eqb n (2 + parameterCount k))) 15
-    (cond (byDifference k && any (λ j. leb 3 (sensorOf sheet j .kind)) js) 18
-    (cond (any isBad (parametersOf sheet js k ts)) 19
+    (cond (byDifference k && any (λ j. not (isMeasured (sensorOf sheet j .kind))) js) 18
+    (cond (any isBad (parametersOf sheet js k ts)) (parameterNumber Bad)
     (cond (shortestOverLongest (strategyMade sheet js k ts)) 20
     0))))
 
@@ -124,9 +127,9 @@ argumentsDeclined sheet Watchdog m = 0
 -- "line over 2,048 or no message", 12; "reply received", 13; "request unknown", 14; "argument count", 15
 unfoldable pub lineDeclined : Sheet → Asked → ℕ
 lineDeclined sheet Nothing = 0
-lineDeclined sheet NotMessage = 12
+lineDeclined sheet NotMessage = parsedNumber Malformed
 lineDeclined sheet Reply = 13
-lineDeclined sheet (Unknown m) = 14
+lineDeclined sheet (Unknown m) = foundNumber 14 Found.Unknown
 lineDeclined sheet (Asks r m) = cond (not (countFits r (length (m .args)))) 15 (argumentsDeclined sheet r m)
 
 -- the rows from 5 on, "Lower number first"

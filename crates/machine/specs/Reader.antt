@@ -8,8 +8,7 @@ use mathlib.Core.Option.{Option, none, some}
 use lib.Dec.{eqb, leb, ltb}
 use lib.ListN.{length, getD, drop}
 use Rattle.output.specs.Text.{text, same, all}
-use Rattle.output.specs.Number.{decimal}
-use Rattle.output.specs.Read.{valueFrom, accepted, readTime, readInteger, readFloat, readDifference, readWholeDifference}
+use Rattle.output.specs.Read.{readTime, readInteger, readFloat, readBoolean, readDifference, readWholeDifference}
 use Rattle.message.specs.Message.{Message}
 use Rattle.value.specs.declared.Sample.{Sample}
 use Rattle.value.specs.Reading.{zeroOf}
@@ -43,15 +42,31 @@ pub data News : Type 0 where
   Reported : ℕ → Told → News
   SetTo : List ℕ → Strategy → News
 
--- Reports.
+-- Reports, in layers: by the message alone; by the sensor's name and type; by the sheet's limits.
+
+-- a report by its parts, as written: its time, its sensor's name, its status by the number of Table 8, its value's text; on no sheet
+pub record Parts : Type 0 where
+  pub time : ℕ
+  pub name : List ℕ
+  pub status : ℕ
+  pub value : List ℕ
 
 -- the status of a word by its number in Table 8; 7 where no status has the word
 unfoldable pub statusNamed : List ℕ → ℕ
 statusNamed word = firstBelow (λ k. same (statusText k) word) 7
 
--- "Boolean: 0, 1"
-unfoldable pub readBoolean : List ℕ → Option ℕ
-readBoolean t = accepted decimal (λ n. leb n 1) t (valueFrom 0 t)
+-- clock, `1`, name, status, value, and no id
+unfoldable pub isShaped : Message → Bool
+isShaped m = eqb (length (m .args)) 5 && (eqb (m .id) 0 && (same (argument m 1) (text "1") && ltb (statusNamed (argument m 3)) 7))
+
+-- the parts of a message by its time, where that can be read
+abbrev pub partsWith : Message → Option ℕ → Option Parts
+partsWith m none = none
+partsWith m (some t) = some (record { time = t; name = argument m 2; status = statusNamed (argument m 3); value = argument m 4 })
+
+-- the first layer: the parts of a message that has the shape of a report
+unfoldable pub partsOf : Message → Option Parts
+partsOf m = cond (isShaped m) (partsWith m (readTime (argument m 0))) none
 
 -- the place of an option
 unfoldable pub optionNamed : Sensor → List ℕ → ℕ
@@ -70,6 +85,27 @@ readValue n t =
     (cond (eqb (n .kind) 4) (readOption n t)
     (readTime t))))
 
+-- a report of sensor j, by its value, where that can be read
+abbrev pub valued : ℕ → Parts → Option ℕ → News
+valued j p none = Impossible
+valued j p (some v) = Reported j (told (p .time) (p .status) v)
+
+-- the second layer: the sensor of that name, and its value by the sensor's type and options
+unfoldable pub reportOn : Sheet → Parts → News
+reportOn sheet p =
+    cond (ltb (placeOf sheet (p .name)) (sheet .count))
+    (valued (placeOf sheet (p .name)) p (readValue (sensorOf sheet (placeOf sheet (p .name))) (p .value)))
+    Impossible
+
+-- no report where the message has not the parts of one
+abbrev pub reportFrom : Sheet → Option Parts → News
+reportFrom sheet none = Impossible
+reportFrom sheet (some p) = reportOn sheet p
+
+-- both layers: a report by the sensor's name, type and options
+unfoldable pub reportRead : Sheet → Message → News
+reportRead sheet m = reportFrom sheet (partsOf m)
+
 -- a valid status
 abbrev pub validStatus : ℕ → Bool
 validStatus st = leb 1 st && leb st 3
@@ -78,22 +114,7 @@ validStatus st = leb 1 st && leb st 3
 unfoldable pub agrees : Sensor → ℕ → ℕ → Bool
 agrees n st v = cond (validStatus st) (eqb (rangeStatus (n .limits) v) st) (eqb v (zeroOf (n .kind)))
 
--- a report of sensor j with this status, by its time and value
-abbrev pub reportWith : ℕ → ℕ → Option ℕ → Option ℕ → News
-reportWith j st none v = Impossible
-reportWith j st (some t) none = Impossible
-reportWith j st (some t) (some v) = Reported j (told t st v)
-
--- clock, `1`, name, status, value, and no id, by the sensor's name, type and options
-unfoldable pub reportRead : Sheet → Message → News
-reportRead sheet m =
-    cond (eqb (length (m .args)) 5 && (eqb (m .id) 0 && (same (argument m 1) (text "1")
-    && (ltb (placeOf sheet (argument m 2)) (sheet .count) && ltb (statusNamed (argument m 3)) 7))))
-    (reportWith (placeOf sheet (argument m 2)) (statusNamed (argument m 3))
-    (readTime (argument m 0)) (readValue (sensorOf sheet (placeOf sheet (argument m 2))) (argument m 4)))
-    Impossible
-
--- a report that agrees with the sensor's limits
+-- the third layer: a report that agrees with the sensor's limits
 unfoldable pub agreed : Sheet → News → News
 agreed sheet Other = Other
 agreed sheet Impossible = Impossible

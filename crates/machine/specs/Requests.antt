@@ -23,6 +23,7 @@ use Rattle.machine.specs.declared.Subscription.{Subscription}
 use Rattle.machine.specs.declared.State.{State}
 use Rattle.machine.specs.declared.Request.{Request}
 use Rattle.machine.specs.declared.Request.the-variants.{ClientList, Halt, Help, LogLevel, Restart, SensorList, SensorSampling, SensorValue, VersionList, Watchdog}
+use Rattle.machine.specs.declared.Found.{Found}
 use Rattle.machine.specs.Places.{tabulate, gather, oneIf, any, firstBelow, has}
 use Rattle.machine.specs.Sheet.{sensorOf, placeOf}
 use Rattle.machine.specs.State.{noClient, present, addressOf, pairAt, pairOf, withPairs, withLevel, emptied, startLevel}
@@ -64,6 +65,16 @@ requestIn (r ∷ rs) name = cond (same (r .name) name) (some (r .request)) (requ
 -- the request of a name
 unfoldable pub requestNamed : List ℕ → Option Request
 requestNamed name = requestIn requests name
+
+-- the code's answer for a name
+abbrev pub found : Option Request → Found
+found none = Found.Unknown
+found (some r) = Found.Is r
+
+-- document 01's number for it, by the row that asks: "request unknown", 14, of a line's name; "help on unknown name", 23, of an argument
+abbrev pub foundNumber : ℕ → Found → ℕ
+foundNumber number (Found.Is r) = 0
+foundNumber number Found.Unknown = number
 
 -- What a line asks: nothing (a blank line, or an inform), or a request of the table, or why it asks none.
 pub data Asked : Type 0 where

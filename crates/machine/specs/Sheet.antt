@@ -8,6 +8,7 @@ use Rattle.output.specs.Text.{same, all}
 use Rattle.output.specs.Read.{inInteger, inFloat}
 unfoldable pub use Rattle.texts.specs.Class.{nameByte}
 use Rattle.value.specs.declared.Limits.{Limits}
+use Rattle.value.specs.Reading.{isMeasured}
 use Rattle.machine.specs.declared.Choice.{Choice}
 use Rattle.machine.specs.declared.Sensor.{Sensor}
 use Rattle.machine.specs.declared.Sheet.{Sheet}
@@ -116,7 +117,7 @@ limitsFour t l =
 
 -- "Types 1, 2: a byte 0, 2 or 4, then so many"; the others have none
 unfoldable pub limitsOk : ℕ → Limits → Bool
-limitsOk t l = limitsNone l || (leb t 2 && (limitsTwo t l || limitsFour t l))
+limitsOk t l = limitsNone l || (isMeasured t && (limitsTwo t l || limitsFour t l))
 
 -- Options.
 

@@ -106,6 +106,12 @@ pub enum Request {
     Watchdog,
 }
 
+// The request of a name, or that there is none of it.
+pub enum Found {
+    Is(Request),
+    Unknown,
+}
+
 // Why subscriptions are visited: a tick, or a reading of a sensor.
 pub enum Cause {
     Tick,

@@ -85,14 +85,7 @@ put-within b bs p =
     let f : min (p .at + 1) (length (p .bytes)) ≤ length (set (p .bytes) (p .at) b) = rw length-set (omega arith) in
     rw (put-at bs (set (p .bytes) (p .at) b) (min (p .at + 1) (length (p .bytes))) f, length-set) (omega arith)
 
--- past the end nothing changes
-pub put-past : (bs xs : List ℕ) (at : ℕ) → length xs ≤ at → putAll (output xs at) bs .bytes ≡ xs
-put-past [] xs at h = refl
-put-past (b ∷ bs) xs at h =
-    let f : length (set xs at b) ≤ min (at + 1) (length xs) = rw length-set (omega arith) in
-    put-past bs (set xs at b) (min (at + 1) (length xs)) f ∙ set-out xs at b h
-
--- at the end neither does the place
+-- at the end neither the bytes change nor the place
 pub put-full : (bs xs : List ℕ) → putAll (output xs (length xs)) bs ≡ output xs (length xs)
 put-full [] xs = refl
 put-full (b ∷ bs) xs =

@@ -8,13 +8,17 @@ use mathlib.Core.List.{[], append-nil}
 use lib.Dec.{leb, eqb}
 use borrow.Author.Tests.{ltb-true, leb-true, eqb-true}
 use Rattle.output.specs.Number.{decimal, time, integer, fixed, float, difference, wholeDifference}
-use Rattle.output.specs.Read.{valueFrom, parts, fromBias, inDecimal, inTime, inInteger, inFloat, inDifference, inWholeDifference, readDecimal, readTime, readInteger, readFloat, readDifference, readWholeDifference, Exactly}
+use Rattle.output.specs.Read.{valueFrom, parts, fromBias, inDecimal, inBoolean, inTime, inInteger, inFloat, inDifference, inWholeDifference, readDecimal, readBoolean, readTime, readInteger, readFloat, readDifference, readWholeDifference, Exactly}
 use Rattle.output.proofs.TextLaws.{first, first-decimal}
 use Rattle.output.proofs.ReadLaws.{value-decimal, parts-fixed, parts-time, from-bias, exactly}
 
 pub decimals : Exactly readDecimal decimal inDecimal
 unfolding readDecimal
 decimals = exactly decimal inDecimal (valueFrom 0) (λ n r. value-decimal n (ltb-true n (2 ^ 64) r))
+
+pub booleans : Exactly readBoolean decimal inBoolean
+unfolding readBoolean
+booleans = exactly decimal inBoolean (valueFrom 0) (λ n r. let l = leb-true n 1 r in value-decimal n (omega arith))
 
 pub times : Exactly readTime time inTime
 unfolding readTime

@@ -4,22 +4,17 @@ use native.Mathlib.Omega.{arith}
 use native.Mathlib.Numerals.{add-one}
 use mathlib.Core.Path.{_≡_, refl, sym, ap, _∙_}
 use mathlib.Core.List.{List, [], _∷_, map}
-use mathlib.Core.Option.{Option}
-use lib.ListN.{length}
 use Rattle.output.specs.Text.{text}
 use Rattle.output.specs.Output.{Output}
 use Rattle.output.proofs.TableLaws.{NoneOf, past-all}
 use Rattle.texts.specs.Table.{wordCount, wordOf, placeOf}
 use Rattle.message.specs.Delivery.{Delivery, to, Sent}
 use Rattle.message.proofs.DeliveryLaws.{and, none-sent, as-sent}
-use Rattle.machine.specs.declared.Request.{Request}
+use Rattle.machine.specs.declared.Found.the-variants.{Unknown}
 use Rattle.machine.specs.Places.{gather}
 use Rattle.machine.specs.Messages.{allTo, helpInform}
-use Rattle.machine.specs.Requests.{Row, requests, requestNamed}
+use Rattle.machine.specs.Requests.{Row, requests, requestNamed, found}
 use Rattle.machine.proofs.WordTables.{requestAt, request-at, request-past}
-use Rattle.replies.specs.declared.Found.{Found}
-use Rattle.replies.specs.declared.Found.the-variants.{Unknown}
-use Rattle.replies.specs.Asking.{found}
 
 abbrev pub table : List ℕ
 table = text "client-list|halt|help|log-level|restart|sensor-list|sensor-sampling|sensor-value|version-list|watchdog"

@@ -1,5 +1,6 @@
 //! What requests are answered with: the informs that are tied to one, and its reply.
 use machine::Client;
+use machine::Found;
 use machine::Request;
 use machine::Sensor;
 use machine::Sheet;
@@ -15,20 +16,14 @@ ghost use Rattle.machine.specs.Places.{oneIf, tabulate};
 ghost use Rattle.machine.specs.Sheet.{optionOf};
 ghost use Rattle.machine.specs.State.{addressOf};
 ghost use Rattle.machine.specs.Messages as messages;
-ghost use Rattle.machine.specs.Requests.{Row, requests, requestNamed, addressesBelow};
+ghost use Rattle.machine.specs.Requests.{Row, requests, requestNamed, found, addressesBelow};
 ghost use Rattle.machine.specs.Declined.{countFits};
-ghost use Rattle.replies.specs.Asking.{asking, found, namesTold};
+ghost use Rattle.replies.specs.Asking.{asking, namesTold};
 
 // How far an output is written, and how many informs that were.
 pub struct Told {
     pub at: usize,
     pub count: usize,
-}
-
-// The request of a name, or that there is none of it.
-pub enum Found {
-    Is(Request),
-    Unknown,
 }
 
 // The names of the requests, in the order of `Request`.

@@ -22,13 +22,12 @@ use Rattle.machine.specs.declared.Request.{Request}
 use Rattle.machine.specs.State.{connected}
 use Rattle.machine.specs.Range.{inRange}
 use Rattle.machine.specs.Messages.{refusalText}
-use Rattle.machine.specs.Requests.{Asks, requestNamed, askedFor, askedBy, asked, sendsOnly, answer}
+use Rattle.machine.specs.declared.Found.the-variants as F
+use Rattle.machine.specs.Requests.{Asks, requestNamed, found, askedFor, askedBy, asked, sendsOnly, answer}
 use Rattle.machine.specs.Declined.{Line, callOf, clientDeclined, countFits, argumentsDeclined, lineDeclined, lineRefusal, actionDeclined, declined, refusal}
 use Rattle.machine.specs.Machine.{done, lineWork, perform, outcome, step}
 use Rattle.machine.proofs.TestLaws.{passed}
 use Rattle.machine.proofs.LineNumbers.{line-number}
-use Rattle.replies.specs.declared.Found.the-variants as F
-use Rattle.replies.specs.Asking.{found}
 use Rattle.declining.proofs.RowsLaws.{Row, row, rowsOr, row-declines, row-below, rows-pass, rows-rest}
 use Rattle.declining.proofs.AnswerLaws.{rowsThen, numberOf, Answers, answers}
 use Rattle.request.specs.Reading.{messageOf, IsRead}

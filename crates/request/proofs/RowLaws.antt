@@ -5,7 +5,6 @@ use native.Mathlib.Omega.{arith}
 use mathlib.Core.Path.{_≡_, refl, ap, sym, _∙_}
 use mathlib.Core.Bool.{Bool, true, false, cond, not}
 use mathlib.Core.List.{List, [], _∷_, _++_, map}
-use mathlib.Core.Option.{Option, none, some}
 use lib.Dec.{eqb, leb, ltb}
 use lib.ListN.{length, take, drop, getD, length-append}
 use lib.Seq.{take-append-seam}
@@ -22,11 +21,12 @@ use Rattle.line.specs.Argument as lines
 use Rattle.machine.specs.declared.Sheet.{Sheet}
 use Rattle.machine.specs.declared.Request.{Request}
 use Rattle.machine.specs.declared.Request.the-variants.{Help, LogLevel}
+use Rattle.machine.specs.declared.Found.{Found}
 use Rattle.machine.specs.Places.{any, twice, Each}
 use Rattle.machine.specs.Sheet.{placeOf, notOnSheet}
 use Rattle.machine.specs.State.{blankSheet}
-use Rattle.machine.specs.Requests.{Asks, argument, allPlaces, askedPlaces, requestNamed, levelOf, split, listed, strategyNamed, kindAsked, parametersOf, strategyMade}
-use Rattle.machine.specs.Declined.{countFits, helpDeclined, placesDeclined, settingDeclined, samplingDeclined, argumentsDeclined, lineDeclined}
+use Rattle.machine.specs.Requests.{Asks, argument, allPlaces, askedPlaces, requestNamed, found, foundNumber, levelOf, split, listed, strategyNamed, kindAsked, parametersOf, strategyMade}
+use Rattle.machine.specs.Declined.{countFits, placesDeclined, settingDeclined, samplingDeclined, argumentsDeclined, lineDeclined}
 use Rattle.machine.proofs.TestLaws.{cond-either, cond-true, cond-false, cond-ap}
 use Rattle.declining.proofs.RowsLaws.{Row, row, row-declines, rows-pass, rows-rest}
 use Rattle.names.specs.declared.Listed.{Listed}
@@ -34,9 +34,6 @@ use Rattle.names.specs.Scan.{placesOf, scanned, placesNamed}
 use Rattle.names.proofs.SheetPlaces.{named-are, scanned-number, scanned-places, scanned-count}
 use Rattle.strategies.specs.declared.Setting.{Setting}
 use Rattle.strategies.specs.Settings.{settingOf}
-use Rattle.replies.specs.declared.Found.{Found}
-use Rattle.replies.specs.declared.Found.the-variants as F
-use Rattle.replies.specs.Asking.{found, foundNumber}
 use Rattle.request.specs.Reading.{messageOf, IsRead}
 use Rattle.request.proofs.ReadLaws.{count-is, argument-is}
 
@@ -107,11 +104,6 @@ module _ (line : List ℕ) (k : ℕ) (into : List ℕ) (h : (length line ≤ 204
 
 -- The rows.
 
--- row 23 or none, by the code's answer for a name
-found-row : (o : Option Request) → foundNumber 23 (found o) ≡ helpDeclined o
-found-row none = refl
-found-row (some r) = refl
-
 -- the three texts behind the strategy's word
 setting-three : (sheet : Sheet) (js : List ℕ) (k n : ℕ) (ts : List (List ℕ)) → settingOf sheet js k n (getD ts 2 [] ∷ getD ts 3 [] ∷ getD ts 4 [] ∷ []) ≡ settingOf sheet js k n (drop 2 ts)
 unfolding settingOf settingDeclined strategyMade parametersOf
@@ -170,7 +162,7 @@ module _ (line : List ℕ) (head : Header) (h : IsRead line head) where
     module _ (ne : head .count ≡ 0 → ⊥) where
       pub help-named : {f g : Found} → f ≡ found (requestNamed t) → f ≡ g → foundNumber 23 g ≡ argumentsDeclined blankSheet Help m
       unfolding argumentsDeclined
-      help-named e u = rw (some-given ne, ← given) (ap (foundNumber 23) (sym u ∙ e) ∙ found-row (requestNamed t))
+      help-named e u = rw (some-given ne, ← given) (ap (foundNumber 23) (sym u ∙ e))
 
       pub level-named : (level : ℕ) {r : ℕ} → r ≡ levelOf t → r ≡ cond (eqb (length (m .args)) 0) level (levelOf (argument m 0))
       level-named level e = rw (some-given ne, ← given) e

@@ -216,7 +216,7 @@ fn limits_ok(kind: u8, l: Limits) -> bool
     let none = limits_none(l);
     let two = limits_two(kind, l);
     let four = limits_four(kind, l);
-    none | ((kind <= 2) & (two | four))
+    none | (value::is_measured(kind) & (two | four))
 }
 
 // A byte as a number that can be added up.

@@ -2,11 +2,12 @@
 use Prim.Native.Nat.{ℕ, _+_, _<_, _≤_}
 use native.Mathlib.Omega.{arith}
 use mathlib.Core.Path.{_≡_, refl, ap, sym, _∙_}
-use mathlib.Core.Bool.{Bool, true, false, cond, _&&_}
+use mathlib.Core.Bool.{Bool, true, false, cond, not, _&&_}
 use mathlib.Core.List.{List, map}
 use lib.Dec.{leb}
 use borrow.Author.Tests.{leb-true, le-leb, lt-leb, eq-eqb, ne-eqb}
 use Rattle.value.specs.declared.Parameter.{Parameter}
+use Rattle.value.specs.Reading.{isMeasured}
 use Rattle.machine.specs.declared.Sheet.{Sheet}
 use Rattle.machine.specs.declared.Strategy.{Strategy}
 use Rattle.machine.specs.declared.Strategy.the-variants.{None}
@@ -18,7 +19,7 @@ use Rattle.machine.proofs.PlacesLaws.{below-at}
 use Rattle.strategies.specs.declared.Made.{Made}
 use Rattle.strategies.specs.declared.Made.the-variants.{Is, Bad}
 use Rattle.strategies.specs.declared.Setting.{Setting}
-use Rattle.strategies.specs.Settings.{made, madeNumber, settingOf}
+use Rattle.strategies.specs.Settings.{made, settingOf}
 
 pub parameters-most : (k : ℕ) → k < 7 → parameterCount k ≤ 3
 unfolding allBelow
@@ -35,19 +36,19 @@ made-bad k ps h = go (any isBad ps) h
   where
     go : (b : Bool) → cond b Bad (Is (strategyBy k (map numberOf ps))) ≡ Bad → b ≡ true
     go true e = refl
-    go false e = let q : _≡_ {A = ℕ} 0 19 = ap madeNumber e in absurd (omega arith)
+    go false e = absurd (let z : _≡_ {A = ℕ} 0 1 = cc in omega arith)
 
 made-is : (k : ℕ) (ps : List Parameter) (st : Strategy) → made k ps ≡ Is st → (any isBad ps ≡ false) × (strategyBy k (map numberOf ps) ≡ st)
 unfolding made
 made-is k ps st h = go (any isBad ps) h
   where
     go : (b : Bool) → cond b Bad (Is (strategyBy k (map numberOf ps))) ≡ Is st → (b ≡ false) × (strategyBy k (map numberOf ps) ≡ st)
-    go true e = let q : _≡_ {A = ℕ} 19 0 = ap madeNumber e in absurd (omega arith)
+    go true e = absurd (let z : _≡_ {A = ℕ} 0 1 = cc in omega arith)
     go false e = (refl, ap strategyIn e)
 
--- one of the sensors at some places is of the types 3 to 5
+-- one of the sensors at some places is not measured
 abbrev unmeasured : Sheet → List ℕ → Bool
-unmeasured sheet js = any (λ j. leb 3 (sensorOf sheet j .kind)) js
+unmeasured sheet js = any (λ j. not (isMeasured (sensorOf sheet j .kind))) js
 
 -- a strategy with so many arguments as it takes, for sensors that it suits
 pub record Suits (sheet : Sheet) (js : List ℕ) (k n : ℕ) : Type 0 where

@@ -16,11 +16,6 @@ use Rattle.strategies.specs.declared.Setting.{Setting}
 unfoldable pub made : ℕ → List Parameter → Made
 made k ps = cond (any isBad ps) Bad (Is (strategyBy k (map numberOf ps)))
 
--- document 01's number for each answer: "parameter", 19
-abbrev pub madeNumber : Made → ℕ
-madeNumber (Is st) = 0
-madeNumber Bad = 19
-
 -- the number of the row that declines a setting, and its strategy: none where it is declined
 unfoldable pub settingOf : Sheet → List ℕ → ℕ → ℕ → List (List ℕ) → Setting
 settingOf sheet js k n ts = record {

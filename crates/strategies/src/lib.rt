@@ -4,13 +4,14 @@ use machine::Sheet;
 use machine::Strategy;
 use value::Parameter;
 ghost use mathlib.Core.Path.{_≡_};
-ghost use mathlib.Core.Bool.{cond};
+ghost use mathlib.Core.Bool.{cond, not};
 ghost use mathlib.Core.List.{[], _∷_};
-ghost use lib.Dec.{eqb, leb};
+ghost use lib.Dec.{eqb};
 ghost use lib.ListN.{getD};
 ghost use Rattle.output.specs.Number.{time};
 ghost use Rattle.output.specs.Output.{output, Wrote};
 ghost use Rattle.message.specs.Message.{arg, argsText};
+ghost use Rattle.value.specs.Reading.{isMeasured};
 ghost use Rattle.value.specs.Parameter.{integerDifferenceOf, floatDifferenceOf};
 ghost use Rattle.machine.specs.Places.{any};
 ghost use Rattle.machine.specs.Sheet.{sensorOf};
@@ -142,16 +143,16 @@ fn type_if(there: bool, kind: u8) -> u8
     if there { kind } else { 0 }
 }
 
-// Whether one of the sensors at some places is of the types 3 to 5.
+// Whether one of the sensors at some places is not measured.
 fn is_unmeasured(sheet: Sheet, places: &[u8]) -> bool
-    ensures { λ r. ⌜ r ≡ any (λ j. leb 3 (sensorOf sheet j .kind)) (now (places .entry)) ⌝ }
+    ensures { λ r. ⌜ r ≡ any (λ j. not (isMeasured (sensorOf sheet j .kind))) (now (places .entry)) ⌝ }
 {
     let mut found = false;
     let mut k = 0;
     while k < places.len() {
         let j = places[k];
         let sensor = sheet.sensors[(j % 32) as usize];
-        found = found | (3 <= type_if(j < 32, sensor.kind));
+        found = found | !value::is_measured(type_if(j < 32, sensor.kind));
         k += 1;
     }
     found

@@ -1,7 +1,7 @@
 -- What a reading becomes (document 01, "Values"): a sample, which is a kind (0 unknown, 1 valid, 2 failure, 3 unreachable, 4 inactive)
 -- and a stored number, or unfit for the sensor's type (1 integer, 2 float, 3 boolean, 4 discrete, 5 timestamp).
 use Prim.Native.Nat.{ℕ, _^_}
-use mathlib.Core.Bool.{Bool, cond, _&&_}
+use mathlib.Core.Bool.{Bool, cond, _&&_, _||_}
 use lib.Dec.{eqb, leb, ltb}
 use lib.IntN.{ℤ}
 use Rattle.value.specs.declared.Fit.{Fit}
@@ -38,6 +38,10 @@ ofInteger x = cond (isSigned32 x) (valid (biasedInteger x)) Unfit
 abbrev pub ofFit : Fit → Sampled
 ofFit (At n) = valid n
 ofFit Out = Unfit
+
+-- types 1 and 2, which have limits and differences
+unfoldable pub isMeasured : ℕ → Bool
+isMeasured t = eqb t 1 || eqb t 2
 
 -- the stored number of "the type's zero (first option for discrete)"
 unfoldable pub zeroOf : ℕ → ℕ

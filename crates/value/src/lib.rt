@@ -10,7 +10,7 @@ ghost use Rattle.output.specs.Read.{valueFrom};
 ghost use Rattle.message.specs.Message.{arg};
 ghost use Rattle.value.specs.Double.{exact1024, wholeOf, within, withinSigned};
 ghost use Rattle.value.specs.Integer.{biasedInteger, signed32, word};
-ghost use Rattle.value.specs.Reading.{valid, below, ofFit, invalid, onlyFor, sampleOf, zeroOf};
+ghost use Rattle.value.specs.Reading.{valid, below, ofFit, invalid, onlyFor, sampleOf, isMeasured, zeroOf};
 ghost use Rattle.value.specs.Status.{rangeStatus, statusOf, statusText};
 ghost use Rattle.value.specs.Value.{valueText};
 ghost use Rattle.value.specs.Parameter.{whole, wholeOk, fractionOk, behindPoint, units, decimalOk, integerDifferenceOf, floatDifferenceOf, periodOf, shortestOf};
@@ -166,6 +166,17 @@ fn float_sample(x: f64) -> Sampled
         return Sampled::Unfit;
     };
     valid_sample(n as u64)
+}
+
+// Whether a type has limits and differences: integer and float.
+pub fn is_measured(kind: u8) -> bool
+    ensures { λ r. ⌜ r ≡ isMeasured kind ⌝ }
+{
+    match kind {
+        1 => true,
+        2 => true,
+        _ => false,
+    }
 }
 
 // The stored number of a type's zero.

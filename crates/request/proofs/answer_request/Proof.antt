@@ -3,9 +3,8 @@ use borrow.Author.Needs.{needs}
 use Prim.Native.Nat.{ℕ}
 use mathlib.Core.Path.{_≡_, ap, sym, _∙_}
 use mathlib.Core.List.{List}
-use Rattle.machine.specs.Requests.{requestNamed}
+use Rattle.machine.specs.Requests.{requestNamed, found}
 use Rattle.machine.proofs.LineNumbers.{request-number}
-use Rattle.replies.specs.Asking.{found}
 use Rattle.request.specs.Reading.{messageOf}
 use Rattle.request.proofs.ReadLaws.{name-is}
 use Rattle.request.proofs.TellLaws.{few-sensors}

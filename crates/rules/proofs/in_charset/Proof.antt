@@ -6,7 +6,7 @@ use Rattle.rules.proofs.in_charset.Statement.{statement}
 use Rattle.rules.proofs.in_charset.Tie as tie
 
 returns : tie.Need-returns
-returns c = rw (c .before .enum-told .given .1) (c .name-byte .ensures)
+returns c = rw (c .before .enum-told .given .1) (c .is-name-byte .ensures)
 
 returns-2 : tie.Need-returns-2
 unfolding graphic

@@ -6,8 +6,8 @@ use Rattle.rules.proofs.limits_ok.Tie as tie
 
 returns : tie.Need-returns
 unfolding limitsOk
-returns c = rw (c .before .before .limits-none .ensures, c .before .limits-two .ensures, c .limits-four .ensures)
+returns c = rw (c .before .before .before .limits-none .ensures, c .before .before .limits-two .ensures, c .before .limits-four .ensures, c .is-measured .ensures)
 
 pub limits-ok-spec : {M : Type 1} → statement M
 limits-ok-spec =
-    tie.close (tie.spec (λ c κs. search needs) (λ c κs. search needs) (λ c κs. search needs) returns)
+    tie.close (tie.spec (λ c κs. search needs) (λ c κs. search needs) (λ c κs. search needs) (λ c κs. search needs) returns)

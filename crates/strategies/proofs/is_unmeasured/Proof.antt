@@ -2,9 +2,10 @@
 use Prim.Native.Nat.{_-_}
 use native.Mathlib.Omega.{arith}
 use mathlib.Core.Path.{ap, _∙_}
-use lib.Dec.{leb}
+use mathlib.Core.Bool.{not}
 use lib.ListN.{length}
 use borrow.Author.Needs.{needs}
+use Rattle.value.specs.Reading.{isMeasured}
 use Rattle.machine.specs.Sheet.{sensorOf}
 use Rattle.strategies.proofs.TypeLaws.{type-at}
 use Rattle.machine.proofs.FoundLaws.{Found, found-none, found-on, found-all}
@@ -12,7 +13,7 @@ use Rattle.strategies.proofs.is_unmeasured.Statement.{statement}
 use Rattle.strategies.proofs.is_unmeasured.Tie as tie
 
 abbrev Inv-loop : tie.InvT-loop
-Inv-loop places sheet found₀ k₀ found k = Found (λ j. leb 3 (sensorOf sheet j .kind)) places found k
+Inv-loop places sheet found₀ k₀ found k = Found (λ j. not (isMeasured (sensorOf sheet j .kind))) places found k
 
 abbrev μ-loop : tie.MeasureT-loop
 μ-loop places sheet found₀ k₀ found k = length places - k
@@ -20,21 +21,16 @@ abbrev μ-loop : tie.MeasureT-loop
 loop-holds : tie.Need-loop-holds Inv-loop μ-loop
 loop-holds c = found-none _ _
 
-shared-slice-read-j : tie.Need-shared-slice-read-j Inv-loop μ-loop
-shared-slice-read-j c = omega arith
-
-add-k : tie.Need-add-k Inv-loop μ-loop
-add-k c = omega arith
-
-loop-less : tie.Need-loop-less Inv-loop μ-loop
-loop-less c = omega arith
-
 loop-again : tie.Need-loop-again Inv-loop μ-loop
-loop-again c = found-on (c .before .before .before .before .loop .inv) 0 _ (c .before .before .before .loop-test .taken) (ap (leb 3) (c .type-if .ensures ∙ type-at (c .before .before .before .before .before .before .args .t1) _ (c .before .before .before .before .before .before .good .0) _))
+loop-again c =
+    let s = c .before .before .before .before in
+    let start = s .before .before .before in
+    found-on (s .before .loop .inv) 0 _ (s .loop-test .taken)
+    (ap not (c .is-measured .ensures ∙ ap isMeasured (c .before .type-if .ensures ∙ type-at (start .args .t1) _ (start .good .0) _)))
 
 returns : tie.Need-returns Inv-loop μ-loop
 returns c = found-all (c .before .loop .inv) (omega arith)
 
 pub is-unmeasured-spec : {M : Type 1} → statement M
 is-unmeasured-spec =
-    tie.close (tie.spec Inv-loop μ-loop loop-holds shared-slice-read-j (λ c. search needs) (λ c. search needs) (λ c. search needs) (λ c κs. search needs) add-k loop-less loop-again returns)
+    tie.close (tie.spec Inv-loop μ-loop loop-holds (λ c. omega arith) (λ c. search needs) (λ c. search needs) (λ c. search needs) (λ c κs. search needs) (λ c κs. search needs) (λ c. omega arith) (λ c. omega arith) loop-again returns)
