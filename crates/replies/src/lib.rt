@@ -27,7 +27,8 @@ pub struct Told {
 }
 
 // The names of the requests, in the order of `Request`.
-const REQUESTS: [u8; 102] = *b"client-list|halt|help|log-level|restart|sensor-list|sensor-sampling|sensor-value|version-list|watchdog";
+const REQUESTS: [u8; 102] =
+    *b"client-list|halt|help|log-level|restart|sensor-list|sensor-sampling|sensor-value|version-list|watchdog";
 
 // The request of a name.
 pub fn request_named(name: &[u8]) -> Found

@@ -521,7 +521,8 @@ fn carry_out(
 }
 
 // The texts of the rows 12 to 23.
-const REFUSALS: [u8; 231] = *b"Not a message.|Unexpected reply.|Unknown request.|Wrong number of arguments.|Unknown sensor.|Unknown strategy.|Strategy not for this type.|Bad parameter.|Shortest exceeds longest.|Sensor named twice.|Unknown level.|Unknown request.";
+const REFUSALS: [u8; 231] =
+    *b"Not a message.|Unexpected reply.|Unknown request.|Wrong number of arguments.|Unknown sensor.|Unknown strategy.|Strategy not for this type.|Bad parameter.|Shortest exceeds longest.|Sensor named twice.|Unknown level.|Unknown request.";
 
 // The codes of a reply that refuses.
 const CODES: [u8; 12] = *b"invalid|fail";

@@ -2,7 +2,7 @@
 use borrow.Author.Needs.{needs}
 use native.Mathlib.Omega.{arith}
 use Prim.Native.Nat.{_+_, _-_, _≤_}
-use mathlib.Core.Path.{_≡_, refl}
+use mathlib.Core.Path.{_≡_}
 use mathlib.Core.Bool.{_&&_}
 use lib.ListN.{length, drop, drop-of-length-le}
 use Rattle.output.specs.Text.{all}
@@ -18,18 +18,6 @@ Inv-loop t ok₀ i₀ ok i = (i ≤ length t) × ((ok && all isHex (drop i t)) �
 abbrev μ-loop : tie.MeasureT-loop
 μ-loop t ok₀ i₀ ok i = length t - i
 
-loop-holds : tie.Need-loop-holds Inv-loop μ-loop
-loop-holds c = (omega arith, refl)
-
-shared-slice-read-is-hex : tie.Need-shared-slice-read-is-hex Inv-loop μ-loop
-shared-slice-read-is-hex c = omega arith
-
-add-i : tie.Need-add-i Inv-loop μ-loop
-add-i c = omega arith
-
-loop-less : tie.Need-loop-less Inv-loop μ-loop
-loop-less c = omega arith
-
 loop-again : tie.Need-loop-again Inv-loop μ-loop
 loop-again c =
     let l = c .before .before .before in
@@ -44,4 +32,4 @@ returns c =
 
 pub all-hex-spec : {M : Type 1} → statement M
 all-hex-spec =
-    tie.close (tie.spec Inv-loop μ-loop loop-holds shared-slice-read-is-hex (λ c κs. search needs) add-i loop-less loop-again returns)
+    tie.close (tie.spec Inv-loop μ-loop (λ c. search needs) (λ c. search needs) (λ c κs. search needs) (λ c. search needs) (λ c. search needs) loop-again returns)

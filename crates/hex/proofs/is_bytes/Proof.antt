@@ -6,7 +6,7 @@ use Rattle.hex.proofs.is_bytes.Tie as tie
 
 returns : tie.Need-returns
 unfolding isBytes
-returns c = rw (c .before .same .ensures, c .all-hex .ensures)
+returns c = cc
 
 pub is-bytes-spec : {M : Type 1} → statement M
 is-bytes-spec = tie.close (tie.spec (λ c. search needs) (λ c κs. search needs) (λ c κs. search needs) returns)

@@ -6,7 +6,7 @@ use Rattle.hex.proofs.is_hex.Tie as tie
 
 returns : tie.Need-returns
 unfolding isHex
-returns c = rw (c .before .is-digit .ensures, c .is-hex-letter .ensures)
+returns c = cc
 
 pub is-hex-spec : {M : Type 1} → statement M
 is-hex-spec = tie.close (tie.spec (λ c κs. search needs) (λ c κs. search needs) returns)

@@ -2,7 +2,7 @@
 use borrow.Author.Needs.{needs}
 use native.Mathlib.Omega.{arith}
 use Prim.Native.Nat.{ℕ, _+_, _*_, _-_, _^_, _≤_, _<_}
-use mathlib.Core.Path.{_≡_, refl, ap, sym, _∙_}
+use mathlib.Core.Path.{_≡_, ap, sym, _∙_}
 use lib.ListN.{length, drop}
 use Rattle.hex.specs.Hex.{hexFrom}
 use Rattle.hex.proofs.HexLaws as H
@@ -15,26 +15,11 @@ Inv-loop t n₀ i₀ n i = (i ≤ length t) × (n < 16 ^ i) × (hexFrom n (drop 
 abbrev μ-loop : tie.MeasureT-loop
 μ-loop t n₀ i₀ n i = length t - i
 
-loop-holds : tie.Need-loop-holds Inv-loop μ-loop
-loop-holds c = (omega arith, omega arith, refl)
-
 mul-n : tie.Need-mul-n Inv-loop μ-loop
 mul-n c = omega (arith, H.below-15 (c .before .loop .n) (c .before .loop .i) (c .before .loop .inv .1) (omega arith))
 
-shared-slice-read-hex-value : tie.Need-shared-slice-read-hex-value Inv-loop μ-loop
-shared-slice-read-hex-value c = omega arith
-
-cast-n : tie.Need-cast-n Inv-loop μ-loop
-cast-n c = omega arith
-
 add-n : tie.Need-add-n Inv-loop μ-loop
-add-n c = omega (arith, H.below-15 (c .before .before .before .loop .n) (c .before .before .before .loop .i) (c .before .before .before .loop .inv .1) (omega arith))
-
-add-i : tie.Need-add-i Inv-loop μ-loop
-add-i c = omega arith
-
-loop-less : tie.Need-loop-less Inv-loop μ-loop
-loop-less c = omega arith
+add-n c = omega (arith, H.below-15 (c .before .before .before .loop .n) _ (c .before .before .before .loop .inv .1) (omega arith))
 
 loop-again : tie.Need-loop-again Inv-loop μ-loop
 loop-again c =
@@ -47,4 +32,4 @@ returns c = sym (H.number-end (c .before .before .before .args .t .now) (c .befo
 
 pub number-of-spec : {M : Type 1} → statement M
 number-of-spec =
-    tie.close (tie.spec Inv-loop μ-loop loop-holds mul-n shared-slice-read-hex-value (λ c κs. search needs) cast-n add-n add-i loop-less loop-again returns)
+    tie.close (tie.spec Inv-loop μ-loop (λ c. search needs) mul-n (λ c. search needs) (λ c κs. search needs) (λ c. search needs) add-n (λ c. search needs) (λ c. search needs) loop-again returns)

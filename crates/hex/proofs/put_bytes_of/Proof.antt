@@ -17,39 +17,16 @@ Inv-loop into₀ at t p₀ i₀ into p i = (i ≤ length t) × R.Rest (output in
 abbrev μ-loop : tie.MeasureT-loop
 μ-loop into₀ at t p₀ i₀ into p i = length t - i
 
-loop-holds : tie.Need-loop-holds Inv-loop μ-loop
-loop-holds c = (omega arith, R.none-yet _ _)
-
-add-loop : tie.Need-add-loop Inv-loop μ-loop
-add-loop c = omega arith
-
-shared-slice-read-byte-of : tie.Need-shared-slice-read-byte-of Inv-loop μ-loop
-shared-slice-read-byte-of c = omega arith
-
-add-byte-of : tie.Need-add-byte-of Inv-loop μ-loop
-add-byte-of c = omega arith
-
-shared-slice-read-byte-of-2 : tie.Need-shared-slice-read-byte-of-2 Inv-loop μ-loop
-shared-slice-read-byte-of-2 c = omega arith
-
-add-i : tie.Need-add-i Inv-loop μ-loop
-add-i c = omega arith
-
-loop-less : tie.Need-loop-less Inv-loop μ-loop
-loop-less c = omega arith
-
 loop-again : tie.Need-loop-again Inv-loop μ-loop
 loop-again c =
-    let l = c .before .before .before .before .before .before .before .before in
+    let c1 = c .before .before .before .before .before .before .before .before in
+    let l = c1 in
     let t = l .before .before .before .args .t .now in
     (omega arith, R.one-more (l .loop .inv .1) _ (c .before .before .put-byte .ensures) (rw (c .before .before .before .byte-of .ensures) (H.bytes-more t (l .loop .i) (omega arith))))
 
 same-length : tie.Need-same-length Inv-loop μ-loop
 same-length c = O.same (R.all-written (c .before .loop .inv .1) (H.bytes-end (c .before .before .before .before .args .t .now) (c .before .loop .i) (omega arith)))
 
-returns : tie.Need-returns Inv-loop μ-loop
-returns c = R.all-written (c .before .loop .inv .1) (H.bytes-end (c .before .before .before .before .args .t .now) (c .before .loop .i) (omega arith))
-
 pub put-bytes-of-spec : {M : Type 1} → statement M
 put-bytes-of-spec =
-    tie.close (tie.spec Inv-loop μ-loop loop-holds add-loop shared-slice-read-byte-of add-byte-of shared-slice-read-byte-of-2 (λ c κs. search needs) (λ c κs. search needs) add-i loop-less loop-again same-length returns)
+    tie.close (tie.spec Inv-loop μ-loop (λ c. search needs) (λ c. search needs) (λ c. search needs) (λ c. search needs) (λ c. search needs) (λ c κs. search needs) (λ c κs. search needs) (λ c. search needs) (λ c. search needs) loop-again same-length (λ c. search (R.all-written, H.bytes-end, needs)))

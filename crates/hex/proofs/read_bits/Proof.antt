@@ -14,11 +14,11 @@ returns c = rw (ne-eqb (length (c .before .before .args .t .now)) 16 (c .if1 .ta
 
 returns-2 : tie.Need-returns-2
 unfolding bitsOf
-returns-2 c = rw (eq-eqb (length (c .before .before .before .before .args .t .now)) 16 (c .before .before .if1 .left), sym (c .before .all-hex .ensures) ∙ not-true _ (c .if2 .taken))
+returns-2 c = rw (eq-eqb (length _) 16 (c .before .before .if1 .left), sym (c .before .all-hex .ensures) ∙ not-true _ (c .if2 .taken))
 
 returns-3 : tie.Need-returns-3
 unfolding bitsOf
-returns-3 c = rw (eq-eqb (length (c .before .before .before .before .before .args .t .now)) 16 (c .before .before .before .if1 .left), sym (c .before .before .all-hex .ensures) ∙ not-false _ (c .before .if2 .left)) (ap Are (c .number-of .ensures))
+returns-3 c = rw (eq-eqb (length _) 16 (c .before .before .before .if1 .left), sym (c .before .before .all-hex .ensures) ∙ not-false _ (c .before .if2 .left)) (ap Are (c .number-of .ensures))
 
 pub read-bits-spec : {M : Type 1} → statement M
 read-bits-spec =

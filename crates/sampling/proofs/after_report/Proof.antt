@@ -3,8 +3,5 @@ use mathlib.Core.Path.{refl}
 use Rattle.sampling.proofs.after_report.Statement.{statement}
 use Rattle.sampling.proofs.after_report.Tie as tie
 
-returns : tie.Need-returns
-returns c = refl
-
 pub after-report-spec : {M : Type 1} → statement M
-after-report-spec = tie.close (tie.spec returns)
+after-report-spec = tie.close (tie.spec (λ c. refl))

@@ -6,7 +6,7 @@ use Rattle.sampling.proofs.deliver_report.Tie as tie
 
 returns : tie.Need-returns
 unfolding report
-returns c = c .before .before .deliver-value .ensures
+returns c = search needs
 
 pub deliver-report-spec : {M : Type 1} → statement M
 deliver-report-spec =

@@ -1,22 +1,12 @@
 -- The calls' facts in a chain.
 use borrow.Author.Needs.{needs}
-use Rattle.message.proofs.DeliveryLaws.{delivered, one, within, kept}
+use Rattle.message.proofs.DeliveryLaws.{delivered, one, within}
 use native.Mathlib.Omega.{arith}
 use Rattle.sampling.proofs.deliver_value.Statement.{statement}
 use Rattle.sampling.proofs.deliver_value.Tie as tie
 
 returns : tie.Need-returns
-returns c =
-    let c0 = c .before .before in
-    let c1 = c0 .before .before .before .before in
-    let c2 = c1 .before .before in
-    one (delivered (c2 .before .before .before .args .out .now) _ _ _ _ _ _ _ (c2 .line-start .result) (c2 .line-start .ensures) (c1 .value-line .ensures) (c0 .put-header .ensures))
-
-same-length : tie.Need-same-length
-same-length c = kept (returns c)
-
-add-result : tie.Need-add-result
-add-result c = let h = within (returns c) in omega arith
+returns c = search (one, delivered, needs)
 
 pub deliver-value-spec : {M : Type 1} → statement M
-deliver-value-spec = tie.close (tie.spec (λ c κs. search needs) (λ c. search needs) (λ c. search needs) (λ c. search needs) (λ c κs. search needs) (λ c κs. search needs) add-result same-length returns)
+deliver-value-spec = tie.close (tie.spec (λ c κs. search needs) (λ c. search needs) (λ c. search needs) (λ c. search needs) (λ c κs. search needs) (λ c κs. search needs) (λ c. let h = within (returns c) in omega arith) (λ c. search needs) returns)

@@ -11,15 +11,15 @@ returns c = rw (ne-eqb (c .before .args .number) 0 (c .if1 .taken))
 
 returns-2 : tie.Need-returns-2
 unfolding firstPlace
-returns-2 c = rw (eq-eqb (c .before .before .before .args .number) 0 (c .before .before .if1 .left), c .enum-told .given .1)
+returns-2 c = cc
 
 returns-3 : tie.Need-returns-3
 unfolding firstPlace
-returns-3 c = rw (eq-eqb (c .before .before .before .before .before .args .number) 0 (c .before .before .before .before .if1 .left), c .before .before .cause .given .1, lt-ltb _ 32 (c .if2 .taken))
+returns-3 c = rw (eq-eqb _ 0 (c .before .before .before .before .if1 .left), c .before .before .cause .given .1, lt-ltb _ 32 (c .if2 .taken))
 
 returns-4 : tie.Need-returns-4
 unfolding firstPlace
-returns-4 c = rw (eq-eqb (c .before .before .before .before .before .args .number) 0 (c .before .before .before .before .if1 .left), c .before .before .cause .given .1, le-ltb _ 32 (c .if2 .left))
+returns-4 c = rw (eq-eqb _ 0 (c .before .before .before .before .if1 .left), c .before .before .cause .given .1, le-ltb _ 32 (c .if2 .left))
 
 pub first-place-spec : {M : Type 1} → statement M
 first-place-spec =

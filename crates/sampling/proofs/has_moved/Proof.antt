@@ -6,7 +6,7 @@ use Rattle.sampling.proofs.has_moved.Tie as tie
 
 returns : tie.Need-returns
 unfolding moved
-returns c = rw (c .before .before .before .before .status-changed .ensures, c .before .before .is-beyond .ensures, c .before .before .before .distance .ensures)
+returns c = cc
 
 pub has-moved-spec : {M : Type 1} → statement M
 has-moved-spec =

@@ -6,7 +6,7 @@ use Rattle.sampling.proofs.is_changed.Tie as tie
 
 returns : tie.Need-returns
 unfolding changed
-returns c = rw (c .before .before .status-changed .ensures)
+returns c = cc
 
 pub is-changed-spec : {M : Type 1} → statement M
 is-changed-spec = tie.close (tie.spec (λ c κs. search needs) returns)

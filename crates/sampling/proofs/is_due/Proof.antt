@@ -26,11 +26,11 @@ returns-5 c = rw (c .before .before .strategy2 .given .1, c .has-moved .ensures)
 
 returns-6 : tie.Need-returns-6
 unfolding due dueBy
-returns-6 c = rw (c .before .before .strategy3 .given .1, c .before .before .before .before .before .since .ensures, c .is-changed2 .ensures)
+returns-6 c = let c1 = c .before .before in let c2 = c1 .before .before .before in rw (c1 .strategy3 .given .1, c2 .since .ensures, c .is-changed2 .ensures)
 
 returns-7 : tie.Need-returns-7
 unfolding due dueBy
-returns-7 c = rw (c .before .before .strategy4 .given .1, c .before .before .before .before .before .since .ensures, c .has-moved2 .ensures)
+returns-7 c = let c1 = c .before .before in let c2 = c1 .before .before .before in rw (c1 .strategy4 .given .1, c2 .since .ensures, c .has-moved2 .ensures)
 
 pub is-due-spec : {M : Type 1} → statement M
 is-due-spec =

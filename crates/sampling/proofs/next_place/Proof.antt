@@ -6,15 +6,15 @@ use Rattle.sampling.proofs.next_place.Tie as tie
 
 returns : tie.Need-returns
 unfolding nextPlace
-returns c = rw (c .before .enum-told .given .1, c .if1 .taken)
+returns c = cc
 
 returns-2 : tie.Need-returns-2
 unfolding nextPlace
-returns-2 c = rw (c .before .enum-told .given .1, c .if1 .left)
+returns-2 c = cc
 
 returns-3 : tie.Need-returns-3
 unfolding nextPlace
-returns-3 c = rw (c .enum-told2 .given .1)
+returns-3 c = cc
 
 pub next-place-spec : {M : Type 1} → statement M
 next-place-spec =

@@ -1,7 +1,6 @@
 -- The text of the option, as the type has it.
 use borrow.Author.Needs.{needs}
 use Rattle.machine.specs.Messages.{valueFor}
-use Rattle.output.proofs.OutputLaws.{same}
 use Rattle.sampling.proofs.put_arg_number.Statement.{statement}
 use Rattle.sampling.proofs.put_arg_number.Tie as tie
 
@@ -12,8 +11,5 @@ returns c =
     let c1 = c0 .before .before .before .before .before in
     rw (c1 .option-at .ensures) at (c0 .put-arg-value .ensures)
 
-same-length : tie.Need-same-length
-same-length c = same (returns c)
-
 pub put-arg-number-spec : {M : Type 1} → statement M
-put-arg-number-spec = tie.close (tie.spec (λ c κs. search needs) (λ c. search needs) (λ c. search needs) (λ c κs. search needs) same-length returns)
+put-arg-number-spec = tie.close (tie.spec (λ c κs. search needs) (λ c. search needs) (λ c. search needs) (λ c κs. search needs) (λ c. search needs) returns)

@@ -6,7 +6,7 @@ use Rattle.sampling.proofs.status_changed.Tie as tie
 
 returns : tie.Need-returns
 unfolding statusChanged
-returns c = rw (c .before .status-of .ensures, c .status-of2 .ensures)
+returns c = cc
 
 pub status-changed-spec : {M : Type 1} → statement M
 status-changed-spec = tie.close (tie.spec (λ c κs. search needs) (λ c κs. search needs) returns)

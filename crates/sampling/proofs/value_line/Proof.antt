@@ -20,8 +20,5 @@ returns c =
     let c9 = c8 .before .before in
     then (c8 .put-byte .ensures) (then (c7 .put-bytes .ensures) (then (c6 .put-id .ensures) (then (c5 .put-arg-time .ensures) (then (c4 .put-arg .ensures) (then (c3 .put-arg-name .ensures) (then (rw (c9 .status-of .ensures) at (c2 .put-arg-status .ensures)) (then (c1 .put-arg-number .ensures) (c0 .put-byte2 .ensures))))))))
 
-same-length : tie.Need-same-length
-same-length c = same (returns c)
-
 pub value-line-spec : {M : Type 1} → statement M
-value-line-spec = tie.close (tie.spec (λ c κs. search needs) (λ c κs. search needs) (λ c κs. search needs) (λ c κs. search needs) (λ c κs. search needs) (λ c. search needs) (λ c κs. search needs) (λ c κs. search needs) (λ c κs. search needs) (λ c κs. search needs) (λ c κs. search needs) same-length returns)
+value-line-spec = tie.close (tie.spec (λ c κs. search needs) (λ c κs. search needs) (λ c κs. search needs) (λ c κs. search needs) (λ c κs. search needs) (λ c. search needs) (λ c κs. search needs) (λ c κs. search needs) (λ c κs. search needs) (λ c κs. search needs) (λ c κs. search needs) (λ c. same (returns c)) returns)

@@ -23,28 +23,22 @@ abbrev μ-loop : tie.MeasureT-loop
 
 loop-holds : tie.Need-loop-holds Inv-loop μ-loop
 unfolding firstPlace
-loop-holds c =
-    let start = c .before .before .before .before .before .before in
-    first-come
-    (eqb (start .args .number) 0)
-    (moment (start .args .s) (start .args .clock) (start .args .t5))
-    (start .args .cause)
-    (output (start .args .out .now) 0)
-    (subscriptions-many (start .args .s) _ (start .good .1 .0))
-    (c .first-place .ensures)
+loop-holds c = search (first-come, subscriptions-many, needs)
 
 loop-less : tie.Need-loop-less Inv-loop μ-loop
 loop-less c =
-    let behind : c .before .before .before .before .before .before .before .loop .p < c .next-place .result = rw (c .next-place .ensures) (next-behind _ _ _) in
+    let c1 = c .before .before .before .before .before .before .before in
+    let behind : c1 .loop .p < c .next-place .result = rw (c .next-place .ensures) (next-behind _ _ _) in
     omega arith
 
 loop-again : tie.Need-loop-again Inv-loop μ-loop
 loop-again c =
-    let start = c .before .before .before .before .before .before .before .before .before .before .before .before .before .before in
-    let loop = c .before .before .before .before .before .before .before .loop in
-    let test : loop .p < 256 = c .before .before .before .before .before .before .loop-test .taken in
+    let c1 = c .before .before .before .before .before .before in let c2 = c1 .before in let c3 = c2 .before .before in let c4 = c3 .before .before .before .before .before in
+    let start = c4 in
+    let loop = c2 .loop in
+    let test : loop .p < 256 = c1 .loop-test .taken in
     let all = subscriptions-many (start .args .s) _ (start .good .1 .0) in
-    let reading = c .before .before .before .before .before .before .before .before .before .by-reading in
+    let reading = c3 .by-reading in
     let can = c .before .before .can-report in
     next-come all test (loop .inv) (c .next-place .ensures)
     (⊎-elim
@@ -60,22 +54,20 @@ loop-again c =
     rw (w .1, w .2, w .3) (turn-silent all test (loop .inv) is)))
     (c .before .if1 .came))
 
-same-length : tie.Need-same-length Inv-loop μ-loop
-same-length c = kept (c .before .loop .inv .passed .sent)
-
 returns : tie.Need-returns Inv-loop μ-loop
 returns c =
-    let start = c .before .before .before .before .before .before .before .before in (
+    let c1 = c .before in let c2 = c1 .before .before .before .before .before .before .before in
+    let start = c2 in (
       refl,
       visited
           (eqb (start .args .number) 0)
           (moment (start .args .s) (start .args .clock) (start .args .t5))
           (start .args .cause)
           (subscriptions-many (start .args .s) _ (start .good .1 .0))
-          (c .before .loop .inv)
+          (c1 .loop .inv)
           (c .loop-test .left),
     )
 
 pub visit-spec : {M : Type 1} → statement M
 visit-spec =
-    tie.close (tie.spec Inv-loop μ-loop (λ c. search needs) (λ c κs. search needs) (λ c κs. search needs) loop-holds (λ c. search needs) (λ c. search needs) (λ c. search needs) (λ c. search needs) (λ c κs. search needs) (λ c. search needs) (λ c. search needs) (λ c. search needs) (λ c. search needs) (λ c κs. search needs) (λ c. search needs) (λ c κs. search needs) (λ c κs. search needs) (λ c. search needs) (λ c. search needs) (λ c κs. search needs) loop-less loop-again same-length returns)
+    tie.close (tie.spec Inv-loop μ-loop (λ c. search needs) (λ c κs. search needs) (λ c κs. search needs) loop-holds (λ c. search needs) (λ c. search needs) (λ c. search needs) (λ c. search needs) (λ c κs. search needs) (λ c. search needs) (λ c. search needs) (λ c. search needs) (λ c. search needs) (λ c κs. search needs) (λ c. search needs) (λ c κs. search needs) (λ c κs. search needs) (λ c. search needs) (λ c. search needs) (λ c κs. search needs) loop-less loop-again (λ c. kept (c .before .loop .inv .passed .sent)) returns)
