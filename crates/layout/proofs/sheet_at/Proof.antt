@@ -13,11 +13,11 @@ use Rattle.layout.proofs.sheet_at.Statement.{statement}
 use Rattle.layout.proofs.sheet_at.Tie as tie
 
 span : (c : tie.After-known-told) → (c .before .a .given .0 .0 + 5 ≡ c .before .a .given .0 .1 .0) × (c .before .a .given .0 .1 .0 ≤ length (c .before .before .before .before .before .args .s .now))
-span c = spanned _ _ 5 (c .before .before .before .bytes-at .ensures) (c .before .a .given .1)
+span c = spanned (c .before .before .before .before .before .args .s .now) _ 5 (c .before .before .before .bytes-at .ensures) (c .before .a .given .1)
 
 returns : tie.Need-returns
 unfolding sheetAt
-returns c = rw (c .no-sheet .ensures, told (textOf _) (c .before .enum-told .given .1) (c .before .before .before .bytes-at .ensures .0))
+returns c = rw (c .no-sheet .ensures, told (textOf (c .before .before .before .before .before .args .s .now)) (c .before .enum-told .given .1) (c .before .before .before .bytes-at .ensures .0))
 
 sub-same : tie.Need-sub-same
 sub-same c = omega (arith, span c)
@@ -29,10 +29,10 @@ part-same-end : tie.Need-part-same-end
 part-same-end c = span c .1
 
 returns-2 : tie.Need-returns-2
-returns-2 c = c .body-at .ensures ∙ sheet-marked _ (told (textOf _) _ _) (sym (c .before .before .same .ensures) ∙ c .before .if1 .taken)
+returns-2 c = c .body-at .ensures ∙ sheet-marked _ (told (textOf (c .before .before .before .before .before .before .before .before .before .before .args .s .now)) (c .before .before .before .before .before .before .a .given .1) (c .before .before .before .before .before .before .before .before .bytes-at .ensures .0)) (sym (c .before .before .same .ensures) ∙ c .before .if1 .taken)
 
 returns-3 : tie.Need-returns-3
-returns-3 c = rw (c .no-sheet2 .ensures, sheet-unmarked _ (told (textOf _) (c .before .before .before .before .before .before .a .given .1) (c .before .before .before .before .before .before .before .before .bytes-at .ensures .0)) (sym (c .before .before .same .ensures) ∙ c .before .if1 .left))
+returns-3 c = rw (c .no-sheet2 .ensures, sheet-unmarked _ (told (textOf (c .before .before .before .before .before .before .before .before .before .before .args .s .now)) (c .before .before .before .before .before .before .a .given .1) (c .before .before .before .before .before .before .before .before .bytes-at .ensures .0)) (sym (c .before .before .same .ensures) ∙ c .before .if1 .left))
 
 pub sheet-at-spec : {M : Type 1} → statement M
 sheet-at-spec =
