@@ -51,8 +51,8 @@ module _ (s : State) (c : ℕ) where
   read-effect line h = ap (λ (p : Parse). lineEffect s c (askedBy p)) (message-is line _ h)
 
   -- a line that is no message
-  pub malformed-effect : lineEffect s c (askedBy malformed) ≡ complained s c 12 (text "Not a message.")
-  unfolding lineEffect lineOutcome lineDeclined lineRefusal refusalText
+  pub malformed-effect : lineEffect s c (askedBy malformed) ≡ complained s c 12 (refusalText 12)
+  unfolding lineEffect lineOutcome lineDeclined lineRefusal
   malformed-effect = refl
 
   module _ (m : Message) where
@@ -60,8 +60,8 @@ module _ (s : State) (c : ℕ) where
     unfolding lineEffect lineOutcome lineDeclined lineWork
     inform-effect e = rw e
 
-    pub reply-effect : m .kind ≡ code "!" → lineEffect s c (askedBy (message m)) ≡ complained s c 13 (text "Unexpected reply.")
-    unfolding lineEffect lineOutcome lineDeclined lineRefusal refusalText
+    pub reply-effect : m .kind ≡ code "!" → lineEffect s c (askedBy (message m)) ≡ complained s c 13 (refusalText 13)
+    unfolding lineEffect lineOutcome lineDeclined lineRefusal
     reply-effect e = rw e
 
     pub request-effect : (m .kind ≡ code "#" → ⊥) → (m .kind ≡ code "!" → ⊥) → lineEffect s c (askedBy (message m)) ≡ lineEffect s c (askedFor (requestNamed (m .name)) m)

@@ -13,8 +13,10 @@ use Rattle.request.proofs.answer_line.Tie as tie
 
 returns : tie.Need-returns
 returns c =
-    let s = c .before .before .before .before .before .before .before .before .before .before in
-    let none = malformed-is (parse (s .args .line .now)) (sym (c .before .before .before .before .before .before .before .read .ensures) ∙ c .before .before .before .before .before .enum-told .given .1) in
+    let told = c .before .before .before .before in
+    let read = told .before .before in
+    let s = read .before .before .before in
+    let none = malformed-is (parse (s .args .line .now)) (sym (read .read .ensures) ∙ told .enum-told .given .1) in
     as-given (ap (λ (p : Parse). lineEffect (s .args .state) (s .args .client) (askedBy p)) none ∙ malformed-effect (s .args .state) (s .args .client)) (c .before .before .complain .ensures)
 
 returns-2 : tie.Need-returns-2
@@ -26,10 +28,12 @@ returns-2 c =
 
 returns-3 : tie.Need-returns-3
 returns-3 c =
-    let s = c .before .before .before .before .before .before .before .before .before .before .before .before .before .before .before in
-    let read = sym (c .before .before .before .before .before .before .before .before .before .before .before .before .read .ensures) ∙ c .before .before .before .before .before .before .before .before .before .before .head .given .1 in
+    let second = c .before .before .before .before in
+    let known = second .before .before .before .before .before in
+    let s = known .before .before .before .before .before in
+    let read = sym (known .before .before .read .ensures) ∙ known .head .given .1 in
     let kind = sym (kind-is (s .args .line .now) _ read) in
-    as-given (read-effect (s .args .state) (s .args .client) (s .args .line .now) read ∙ reply-effect (s .args .state) (s .args .client) (messageOf (s .args .line .now)) (kind ∙ c .before .before .before .before .before .if2 .taken)) (c .before .before .complain2 .ensures)
+    as-given (read-effect (s .args .state) (s .args .client) (s .args .line .now) read ∙ reply-effect (s .args .state) (s .args .client) (messageOf (s .args .line .now)) (kind ∙ second .if2 .taken)) (c .before .before .complain2 .ensures)
 
 answer-request-requires : tie.Need-answer-request-requires
 answer-request-requires c κs =
@@ -46,4 +50,4 @@ returns-4 c =
 
 pub answer-line-spec : {M : Type 1} → statement M
 answer-line-spec =
-    tie.close (tie.spec (λ c κs. search needs) (λ c. search needs) (λ c. search needs) (λ c. search needs) (λ c κs. search needs) (λ c. search needs) returns (λ c κs. search needs) returns-2 (λ c. search needs) (λ c κs. search needs) (λ c. search needs) returns-3 answer-request-requires (λ c. search needs) returns-4)
+    tie.close (tie.spec (λ c κs. search needs) (λ c. search needs) (λ c. search needs) (λ c κs. search needs) (λ c. search needs) returns (λ c κs. search needs) returns-2 (λ c κs. search needs) (λ c. search needs) returns-3 answer-request-requires (λ c. search needs) returns-4)
