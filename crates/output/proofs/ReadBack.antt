@@ -8,7 +8,7 @@ use mathlib.Core.List.{[], append-nil}
 use lib.Dec.{leb, eqb}
 use borrow.Author.Tests.{ltb-true, leb-true, eqb-true}
 use Rattle.output.specs.Number.{decimal, time, integer, fixed, float, difference, wholeDifference}
-use Rattle.output.specs.Read.{valueFrom, parts, fromBias, inDecimal, inTime, inInteger, inFloat, inDifference, inWholeDifference, readDecimal, readTime, readInteger, readFloat, readDifference, readWholeDifference, Exactly}
+use Rattle.output.specs.Read.{valueFrom, parts, fromBias, inDecimal, inBoolean, inTime, inInteger, inFloat, inDifference, inWholeDifference, readDecimal, readBoolean, readTime, readInteger, readFloat, readDifference, readWholeDifference, Exactly}
 use Rattle.output.proofs.TextLaws.{first, first-decimal}
 use Rattle.output.proofs.ReadLaws.{value-decimal, parts-fixed, parts-time, from-bias, exactly}
 
@@ -16,11 +16,15 @@ pub decimals : Exactly readDecimal decimal inDecimal
 unfolding readDecimal
 decimals = exactly decimal inDecimal (valueFrom 0) (λ n r. value-decimal n (ltb-true n (2 ^ 64) r))
 
+pub booleans : Exactly readBoolean decimal inBoolean
+unfolding readBoolean
+booleans = exactly decimal inBoolean (valueFrom 0) (λ n r. let l = leb-true n 1 r in value-decimal n (omega arith))
+
 pub times : Exactly readTime time inTime
 unfolding readTime
 times = exactly time inTime (parts 1000) (λ ms r. let l = leb-true ms 9999999999999 r in parts-time ms (omega arith))
 
-digit-first : (n : ℕ) → code "0" ≤ first (decimal n)
+pub digit-first : (n : ℕ) → code "0" ≤ first (decimal n)
 digit-first n = rw (append-nil (decimal n)) at (first-decimal n [])
 
 pub integers : Exactly readInteger integer inInteger
@@ -29,7 +33,7 @@ integers =
     exactly integer inInteger (fromBias (2 ^ 31) (valueFrom 0))
     (λ v r. let l = ltb-true v (2 ^ 32) r in from-bias (2 ^ 31) decimal (valueFrom 0) v digit-first (λ n h. value-decimal n (omega arith)) (omega arith))
 
-fixed-first : (base k m : ℕ) → code "0" ≤ first (fixed base k m)
+pub fixed-first : (base k m : ℕ) → code "0" ≤ first (fixed base k m)
 unfolding fixed
 fixed-first base k m = first-decimal (m / base) _
 

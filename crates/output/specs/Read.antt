@@ -45,6 +45,10 @@ accepted write inRange t x = cond (inRange x && same (write x) t) (some x) none
 abbrev pub inDecimal : ℕ → Bool
 inDecimal n = ltb n (2 ^ 64)
 
+-- "Boolean: 0, 1"
+abbrev pub inBoolean : ℕ → Bool
+inBoolean n = leb n 1
+
 -- "0 to 9,999,999,999,999" milliseconds
 abbrev pub inTime : ℕ → Bool
 inTime ms = leb ms 9999999999999
@@ -68,6 +72,10 @@ inWholeDifference d = leb d 4294967295000000 && eqb (d % 1000000) 0
 -- a decimal
 unfoldable pub readDecimal : List ℕ → Option ℕ
 readDecimal t = accepted decimal inDecimal t (valueFrom 0 t)
+
+-- a boolean
+unfoldable pub readBoolean : List ℕ → Option ℕ
+readBoolean t = accepted decimal inBoolean t (valueFrom 0 t)
 
 -- a time
 unfoldable pub readTime : List ℕ → Option ℕ

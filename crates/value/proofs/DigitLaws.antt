@@ -26,25 +26,6 @@ value-below (b ∷ s) e =
     let m = mul-le-mul-right (10 ^ length s) d in
     rw (value-from (0 * 10 + (b - 48)) s, pow-suc 10 (length s)) (omega arith)
 
--- digits only make a number larger
-pub value-grows : (a : ℕ) (s : List ℕ) → a ≤ valueFrom a s
-value-grows a [] = le-refl a
-value-grows a (b ∷ s) = let h = value-grows (a * 10 + (b - 48)) s in omega arith
-
--- so that a cap c may be applied on the way
-value-capped : (c a : ℕ) (s : List ℕ) → min (valueFrom (min a c) s) c ≡ min (valueFrom a s) c
-value-capped c a s =
-    ⊎-elim
-    (λ (z : a - c ≡ 0). let h : a ≤ c = omega arith in rw (min-eq-left h))
-    (λ (z : 0 < a - c). let e : min a c ≡ c = omega arith in let x = value-grows c s in let y = value-grows a s in rw e (omega arith))
-    (eq-zero-or-pos (a - c))
-
-pub value-more : (c : ℕ) (t : List ℕ) (i n : ℕ) → i < length t → min (valueFrom (min (n * 10 + (getD t i 0 - 48)) c) (drop (i + 1) t)) c ≡ min (valueFrom n (drop i t)) c
-value-more c t i n h = rw (add-one i, drop-cons t i 0 h) (value-capped c (n * 10 + (getD t i 0 - 48)) (drop (suc i) t))
-
-pub value-end : (t : List ℕ) (i n : ℕ) → length t ≤ i → valueFrom n (drop i t) ≡ n
-value-end t i n h = rw (drop-of-length-le t h)
-
 -- ---- zeros behind a number
 
 pub zero-more : (n i : ℕ) → n * 10 ^ i * 10 ≡ n * 10 ^ (i + 1)

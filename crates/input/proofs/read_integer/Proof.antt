@@ -2,14 +2,14 @@
 use borrow.Author.Needs.{needs}
 use mathlib.Core.Path.{_≡_, sym, _∙_}
 use Rattle.output.specs.Read.{readInteger}
-use Rattle.input.specs.declared.Number.the-variants.{Is}
-use Rattle.input.specs.Words.{numberOf}
+use Rattle.numbers.specs.declared.Number.the-variants.{Is}
+use Rattle.numbers.specs.Number.{numberOf}
 use Rattle.input.proofs.SignedLaws as signed
 use Rattle.input.proofs.read_integer.Statement.{statement}
 use Rattle.input.proofs.read_integer.Tie as tie
 
-read-biased-requires : tie.Need-read-biased-requires
-read-biased-requires c κs = search needs
+read-integer-requires : tie.Need-read-integer-requires
+read-integer-requires c κs = search needs
 
 enum-known-v : tie.Need-enum-known-v
 enum-known-v c = search needs
@@ -18,10 +18,10 @@ enum-told : tie.Need-enum-told
 enum-told c = search needs
 
 returns : tie.Need-returns
-returns c = signed.no-integer (readInteger (c .before .before .before .before .args .t .now)) (sym (c .enum-told .given .1) ∙ c .before .before .read-biased .ensures)
+returns c = signed.no-integer (readInteger (c .before .before .before .before .args .t .now)) (sym (c .enum-told .given .1) ∙ c .before .before .read-integer .ensures)
 
 is : (c : tie.After-known-told) → Is (c .before .v .given .0 .0) ≡ numberOf (readInteger (c .before .before .before .before .before .args .t .now))
-is c = sym (c .before .v .given .1) ∙ c .before .before .before .read-biased .ensures
+is c = sym (c .before .v .given .1) ∙ c .before .before .before .read-integer .ensures
 
 cast-t4 : tie.Need-cast-t4
 cast-t4 c = signed.wide-fits (c .before .before .before .before .before .args .t .now) _ (is c)
@@ -38,4 +38,4 @@ returns-2 c = signed.integer-is (c .before .before .before .before .before .args
 pub read-integer-spec : {M : Type 1} → statement M
 read-integer-spec =
     tie.close
-    (tie.spec read-biased-requires enum-known-v enum-told returns cast-t4 sub-t5 cast-t6 returns-2)
+    (tie.spec read-integer-requires enum-known-v enum-told returns cast-t4 sub-t5 cast-t6 returns-2)
