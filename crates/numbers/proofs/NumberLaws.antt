@@ -11,7 +11,7 @@ use lib.Dec.{leb, eqb}
 use lib.ListN.{length, take, drop, getD}
 use lib.Seq.{take-append-seam}
 use Rattle.output.specs.Text.{same}
-use Rattle.output.specs.Number.{digit, decimal, time, fixed, integer, float, difference, wholeDifference}
+use Rattle.output.specs.Number.{decimal, time, fixed, integer, float, difference, wholeDifference}
 use Rattle.output.specs.Output.{output, Wrote}
 use Rattle.output.specs.Read as reads
 use Rattle.output.specs.Read.{valueFrom, other, upTo, past, parts, fromBias, Exactly}

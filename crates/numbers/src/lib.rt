@@ -9,22 +9,25 @@ ghost use Rattle.numbers.specs.Number.{numberOf, heldParts, heldSigned};
 // The most bytes that a number's text has.
 const LONGEST: usize = 20;
 
-// How many parts make one.
+// Milliseconds of a second.
 const THOUSAND: u64 = 1000;
 
+// The parts of one that a float counts.
 const BINARY_THOUSAND: u64 = 1024;
 
+// Those that a difference counts.
 const MILLION: u64 = 1000000;
 
-// The last number of each range, how many integers there are, and what signed numbers count from.
 const LAST_BOOLEAN: u64 = 1;
 
 const LAST_TIME: u64 = 9999999999999;
 
+// What integers count from, and how many there are.
 const INTEGER_BIAS: u64 = 2147483648;
 
 const INTEGERS: u64 = 2 * INTEGER_BIAS;
 
+// What floats count from, and the last one.
 const FLOAT_BIAS: u64 = 1073741824;
 
 const LAST_FLOAT: u64 = 2 * FLOAT_BIAS;

@@ -1,14 +1,12 @@
 -- The number that digits make, and a number with zeros behind it.
-use Prim.Native.Nat.{ℕ, suc, _+_, _-_, _*_, _^_, _<_, _≤_, min}
-use native.Mathlib.Nat.{le-refl, min-eq-left, mul-assoc, mul-le-mul, mul-le-mul-right, pow-suc, pow-le-pow-right, eq-zero-or-pos}
+use Prim.Native.Nat.{ℕ, _+_, _-_, _*_, _^_, _<_, _≤_}
+use native.Mathlib.Nat.{mul-assoc, mul-le-mul, mul-le-mul-right, pow-suc, pow-le-pow-right}
 use native.Mathlib.Numerals.{add-one}
 use native.Mathlib.Omega.{arith}
 use mathlib.Core.Path.{_≡_}
-use mathlib.Core.Logic.{⊎-elim}
 use mathlib.Core.Bool.{true, and-eq-true-iff}
 use mathlib.Core.List.{List, [], _∷_}
-use lib.ListN.{length, drop, getD, drop-of-length-le}
-use lib.Seq.{drop-cons}
+use lib.ListN.{length}
 use Rattle.output.specs.Text.{isDigit, all}
 use Rattle.output.specs.Read.{valueFrom}
 use Rattle.output.proofs.TextLaws.{digit-range}

@@ -5,7 +5,10 @@ use Rattle.numbers.proofs.parts_of.Statement.{statement}
 use Rattle.numbers.proofs.parts_of.Tie as tie
 
 mul-without-digits : tie.Need-mul-without-digits
-mul-without-digits c = let s = c .before .before .before .before .before .before in record { fits = number.capped-fits (s .args .base) _ (s .pre) (c .digits-after2 .ensures) }
+mul-without-digits c =
+    let p = c .before .before .before in
+    let s = p .before .before .before in
+    record { fits = number.capped-fits (s .args .base) _ (s .pre) (c .digits-after2 .ensures) }
 
 returns : tie.Need-returns
 returns c =
