@@ -14,9 +14,10 @@ use mir.ValLaws.{toZ-pos, toZ-ofZ}
 use Rattle.output.specs.Read.{readInteger}
 use Rattle.output.proofs.ReadBack.{integers}
 use Rattle.value.proofs.SignedLaws.{widens}
-use Rattle.input.specs.declared.Number.the-variants.{Is, Bad}
+use Rattle.numbers.specs.declared.Number.the-variants.{Is, Bad}
+use Rattle.numbers.specs.Number.{numberOf}
 use Rattle.input.specs.declared.Integer.the-variants as signed
-use Rattle.input.specs.Words.{numberOf, signedOf, integerOf}
+use Rattle.input.specs.Words.{signedOf, integerOf}
 
 pub no-integer : (o : Option ℕ) → Bad ≡ numberOf o → signed.Bad ≡ integerOf o
 no-integer none e = refl

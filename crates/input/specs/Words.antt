@@ -1,4 +1,4 @@
--- The lines that the programs read: words with one space between them, and decimals among the words.
+-- The lines that the programs read: words with one space between them, and numbers among the words.
 use Prim.Native.Nat.{ℕ, zero, suc, _-_, _^_}
 use Prim.Native.Char.{code}
 use mathlib.Core.Bool.{Bool, cond, _&&_}
@@ -9,10 +9,8 @@ use lib.IntN.{ℤ, pos, negsuc}
 use Rattle.output.specs.Text.{isDigit, all, same}
 use Rattle.output.specs.Read.{upTo, past}
 use Rattle.value.specs.Parameter.{wholeOk}
-use Rattle.input.specs.declared.Number.{Number}
-use Rattle.input.specs.declared.Number.the-variants.{Is, Bad}
 use Rattle.input.specs.declared.Integer.{Integer}
-use Rattle.input.specs.declared.Integer.the-variants as integers
+use Rattle.input.specs.declared.Integer.the-variants.{Is, Bad}
 
 -- what stands behind the first k spaces of a line
 abbrev pub behindSpaces : ℕ → List ℕ → List ℕ
@@ -36,16 +34,11 @@ hasWords word more t = same (wordAt 0 t) word && eqb (spaces t) more
 unfoldable pub isNatural : List ℕ → Bool
 isNatural t = wholeOk t && all isDigit t
 
--- a number that was read, or none
-abbrev pub numberOf : Option ℕ → Number
-numberOf none = Bad
-numberOf (some n) = Is n
-
 -- a signed number that is counted from -2^31; `negsuc n` is -(n + 1)
 abbrev pub signedOf : ℕ → ℤ
 signedOf v = cond (ltb v (2 ^ 31)) (negsuc (2 ^ 31 - suc v)) (pos (v - 2 ^ 31))
 
 -- a signed number that was read, or none
 abbrev pub integerOf : Option ℕ → Integer
-integerOf none = integers.Bad
-integerOf (some v) = integers.Is (signedOf v)
+integerOf none = Bad
+integerOf (some v) = Is (signedOf v)

@@ -24,7 +24,7 @@ pub times : Exactly readTime time inTime
 unfolding readTime
 times = exactly time inTime (parts 1000) (λ ms r. let l = leb-true ms 9999999999999 r in parts-time ms (omega arith))
 
-digit-first : (n : ℕ) → code "0" ≤ first (decimal n)
+pub digit-first : (n : ℕ) → code "0" ≤ first (decimal n)
 digit-first n = rw (append-nil (decimal n)) at (first-decimal n [])
 
 pub integers : Exactly readInteger integer inInteger
@@ -33,7 +33,7 @@ integers =
     exactly integer inInteger (fromBias (2 ^ 31) (valueFrom 0))
     (λ v r. let l = ltb-true v (2 ^ 32) r in from-bias (2 ^ 31) decimal (valueFrom 0) v digit-first (λ n h. value-decimal n (omega arith)) (omega arith))
 
-fixed-first : (base k m : ℕ) → code "0" ≤ first (fixed base k m)
+pub fixed-first : (base k m : ℕ) → code "0" ≤ first (fixed base k m)
 unfolding fixed
 fixed-first base k m = first-decimal (m / base) _
 

@@ -96,7 +96,7 @@ pub past-at : (x : ℕ) (a b : List ℕ) → all (other x) a ≡ true → past x
 past-at x a b p = ap (drop 1) (behind-append (other x) a (x ∷ b) p) ∙ rw (other-self x)
 
 -- a decimal has no point
-no-point : (w : ℕ) → all (other (code ".")) (decimal w) ≡ true
+pub no-point : (w : ℕ) → all (other (code ".")) (decimal w) ≡ true
 no-point w = every-all (other 46) (decimal w) (every-decimal (λ b. other 46 b ≡ true) (λ n. rw (ne-eqb (48 + n % 10) 46 (λ z. omega arith))) w)
 
 -- a whole part and the digits of f / base

@@ -13,7 +13,7 @@ use Rattle.output.proofs.OutputLaws as O
 use Rattle.output.proofs.RunLaws.{run-le, run-drop}
 use Rattle.hex.specs.Hex.{bytesOf}
 use Rattle.input.specs.Words.{behindSpaces, wordAt}
-use Rattle.input.proofs.NumberLaws.{written}
+use Rattle.numbers.proofs.NumberLaws.{written}
 use Rattle.script.specs.Replay.{bytesAt}
 
 -- a word stands for half as many bytes as it has

@@ -7,8 +7,8 @@ use borrow.Author.Tests.{leb-true, le-leb, lt-leb, lt-ltb, le-ltb}
 use lib.Dec.{T, leb}
 use lib.Ieee.{Float, nan, inf, fin, binary64, isNan, ofBits, nanBits, div}
 use lib.Ieee.Bits.{nanBits-is, nanBits-above}
-use Rattle.input.specs.declared.Number.{Number}
-use Rattle.input.specs.declared.Number.the-variants.{Is, Bad}
+use Rattle.numbers.specs.declared.Number.{Number}
+use Rattle.numbers.specs.declared.Number.the-variants.{Is, Bad}
 use Rattle.script.specs.Script.{atMost}
 
 pub at-most-in : {n : Number} (most x : ℕ) → n ≡ Is x → x ≤ most → Is x ≡ atMost most n

@@ -17,11 +17,12 @@ use Rattle.output.specs.Text.{text, same}
 use Rattle.output.specs.Read.{readDecimal, readInteger}
 use Rattle.value.specs.declared.Reading.{Reading}
 use Rattle.value.specs.declared.Reading.the-variants.{Integer, Float, Boolean, Option as Choice, Timestamp, Failure, Unreachable, Inactive}
-use Rattle.input.specs.declared.Number.{Number}
-use Rattle.input.specs.declared.Number.the-variants.{Is, Bad}
+use Rattle.numbers.specs.declared.Number.{Number}
+use Rattle.numbers.specs.declared.Number.the-variants.{Is, Bad}
 use Rattle.input.specs.declared.Integer.{Integer as Signed}
 use Rattle.input.specs.declared.Integer.the-variants as integers
-use Rattle.input.specs.Words.{wordAt, hasWords, numberOf, integerOf}
+use Rattle.numbers.specs.Number.{numberOf}
+use Rattle.input.specs.Words.{wordAt, hasWords, integerOf}
 use Rattle.hex.specs.declared.Bits.{Bits}
 use Rattle.hex.specs.declared.Bits.the-variants as bits
 use Rattle.hex.specs.Hex.{isBytes, bitsOf}

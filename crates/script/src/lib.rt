@@ -1,9 +1,9 @@
 //! Scripts of calls: a line of a script is read, its call made on a device, and the line that answers it written (specs/Script.antt has the format).
 use hex::Bits;
 use input::Integer;
-use input::Number;
 use machine::Answer;
 use machine::State;
+use numbers::Number;
 use value::Reading;
 ghost use mathlib.Core.Path.{_≡_};
 ghost use Prim.Native.Nat.{_≤_, min};
@@ -16,7 +16,8 @@ ghost use Rattle.machine.specs.Declined as calls;
 ghost use Rattle.machine.specs.Opening.{opened};
 ghost use Rattle.machine.specs.Machine.{step, answerOf, outputOf};
 ghost use Rattle.hex.specs.Hex.{bitsOf};
-ghost use Rattle.input.specs.Words.{wordAt, numberOf, integerOf};
+ghost use Rattle.numbers.specs.Number.{numberOf};
+ghost use Rattle.input.specs.Words.{wordAt, integerOf};
 ghost use Rattle.script.specs.Script as scripts;
 ghost use Rattle.script.specs.Replay as replays;
 
@@ -66,7 +67,7 @@ fn at_most(most: u64, n: Number) -> Number
 fn number_at(line: &[u8], k: usize) -> Number
     ensures { λ r. ⌜ r ≡ scripts.numberAt k (now (line .entry)) ⌝ }
 {
-    input::read_decimal(input::word(line, k))
+    numbers::read_decimal(input::word(line, k))
 }
 
 // The double of this bit pattern, of a NaN's too.
@@ -101,7 +102,7 @@ fn integer_of(t: &[u8]) -> Given
 fn byte_number(t: &[u8]) -> Number
     ensures { λ r. ⌜ r ≡ scripts.atMost 255 (numberOf (readDecimal (now (t .entry)))) ⌝ }
 {
-    at_most(255, input::read_decimal(t))
+    at_most(255, numbers::read_decimal(t))
 }
 
 fn boolean_of(t: &[u8]) -> Given
@@ -125,7 +126,7 @@ fn option_of(t: &[u8]) -> Given
 fn timestamp_of(t: &[u8]) -> Given
     ensures { λ r. ⌜ r ≡ scripts.readingOf readings.Timestamp (numberOf (readDecimal (now (t .entry)))) ⌝ }
 {
-    let Number::Is(n) = input::read_decimal(t) else {
+    let Number::Is(n) = numbers::read_decimal(t) else {
         return Given::Unread;
     };
     Given::A(Reading::Timestamp(n))

@@ -10,8 +10,9 @@ use borrow.Author.Tests.{eq-eqb, ne-eqb}
 use lib.ListN.{length, take, drop, getD}
 use Rattle.output.specs.Text.{text, same}
 use Rattle.texts.proofs.At.{to-end}
-use Rattle.input.specs.declared.Number.the-variants.{Is, Bad}
-use Rattle.input.specs.Words.{isNatural, numberOf}
+use Rattle.numbers.specs.declared.Number.the-variants.{Is, Bad}
+use Rattle.numbers.specs.Number.{numberOf}
+use Rattle.input.specs.Words.{isNatural}
 use Rattle.terminal.specs.Entry.{natural, isWhole}
 
 -- a decimal that is too large, or none

@@ -13,8 +13,8 @@ use Rattle.value.specs.declared.Reading.{Reading as Given}
 use Rattle.value.specs.declared.Reading.the-variants.{Integer, Boolean}
 use Rattle.machine.specs.Declined.{Action}
 use Rattle.machine.specs.Declined as calls
-use Rattle.input.specs.declared.Number.{Number}
-use Rattle.input.specs.declared.Number.the-variants.{Is, Bad}
+use Rattle.numbers.specs.declared.Number.{Number}
+use Rattle.numbers.specs.declared.Number.the-variants.{Is, Bad}
 use Rattle.input.specs.declared.Integer.{Integer as Signed}
 use Rattle.input.specs.declared.Integer.the-variants as integers
 use Rattle.input.specs.Words.{wordAt, hasWords, isNatural, integerOf}

@@ -1,9 +1,9 @@
 //! The console's part that can be proved: the calls that it makes before it reads a line, what an input line asks, the call that this makes, and
 //! the lines that a client is shown of a call's output.
 use input::Integer;
-use input::Number;
 use machine::Answer;
 use machine::State;
+use numbers::Number;
 use value::Reading;
 ghost use mathlib.Core.Path.{_≡_};
 ghost use mathlib.Core.Bool.{cond};
@@ -30,7 +30,7 @@ pub enum Entry {
 fn natural(t: &[u8]) -> Number
     ensures { λ r. ⌜ r ≡ entries.natural (now (t .entry)) (readDecimal (now (t .entry))) ⌝ }
 {
-    let Number::Is(n) = input::read_decimal(t) else {
+    let Number::Is(n) = numbers::read_decimal(t) else {
         if input::is_natural(t) {
             return Number::Is(u64::MAX);
         }

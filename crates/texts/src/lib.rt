@@ -2,7 +2,7 @@
 ghost use mathlib.Core.Path.{_≡_};
 ghost use lib.ListN.{length, take};
 ghost use Rattle.output.specs.Text as text;
-ghost use Rattle.output.specs.Read.{upTo};
+ghost use Rattle.output.specs.Read.{upTo, past};
 ghost use Rattle.texts.specs.Class as classes;
 ghost use Rattle.texts.specs.Table as tables;
 
@@ -119,6 +119,18 @@ pub fn len_before(s: &[u8], stop: u8) -> usize
     ensures { λ r. ⌜ r ≡ length (upTo stop (now (s .entry))) ⌝ }
 {
     run_len(s, Class::Other(stop))
+}
+
+// What stands behind the first byte `stop` of a text; nothing where it has none.
+pub fn behind(s: &[u8], stop: u8) -> &[u8]
+    ensures { λ r. ⌜ now r ≡ past stop (now (s .entry)) ⌝ }
+{
+    let n = len_before(s, stop);
+    if n == s.len() {
+        return &s[n..];
+    }
+    let after = n + 1;
+    &s[after..]
 }
 
 // How many words a table has.

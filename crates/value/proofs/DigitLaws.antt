@@ -1,14 +1,12 @@
 -- The number that digits make, and a number with zeros behind it.
-use Prim.Native.Nat.{ℕ, suc, _+_, _-_, _*_, _^_, _<_, _≤_, min}
-use native.Mathlib.Nat.{le-refl, min-eq-left, mul-assoc, mul-le-mul, mul-le-mul-right, pow-suc, pow-le-pow-right, eq-zero-or-pos}
+use Prim.Native.Nat.{ℕ, _+_, _-_, _*_, _^_, _<_, _≤_}
+use native.Mathlib.Nat.{mul-assoc, mul-le-mul, mul-le-mul-right, pow-suc, pow-le-pow-right}
 use native.Mathlib.Numerals.{add-one}
 use native.Mathlib.Omega.{arith}
 use mathlib.Core.Path.{_≡_}
-use mathlib.Core.Logic.{⊎-elim}
 use mathlib.Core.Bool.{true, and-eq-true-iff}
 use mathlib.Core.List.{List, [], _∷_}
-use lib.ListN.{length, drop, getD, drop-of-length-le}
-use lib.Seq.{drop-cons}
+use lib.ListN.{length}
 use Rattle.output.specs.Text.{isDigit, all}
 use Rattle.output.specs.Read.{valueFrom}
 use Rattle.output.proofs.TextLaws.{digit-range}
@@ -25,25 +23,6 @@ value-below (b ∷ s) e =
     let d : 0 * 10 + (b - 48) ≤ 9 = omega (arith, digit-range b (p .0) .1) in
     let m = mul-le-mul-right (10 ^ length s) d in
     rw (value-from (0 * 10 + (b - 48)) s, pow-suc 10 (length s)) (omega arith)
-
--- digits only make a number larger
-pub value-grows : (a : ℕ) (s : List ℕ) → a ≤ valueFrom a s
-value-grows a [] = le-refl a
-value-grows a (b ∷ s) = let h = value-grows (a * 10 + (b - 48)) s in omega arith
-
--- so that a cap c may be applied on the way
-value-capped : (c a : ℕ) (s : List ℕ) → min (valueFrom (min a c) s) c ≡ min (valueFrom a s) c
-value-capped c a s =
-    ⊎-elim
-    (λ (z : a - c ≡ 0). let h : a ≤ c = omega arith in rw (min-eq-left h))
-    (λ (z : 0 < a - c). let e : min a c ≡ c = omega arith in let x = value-grows c s in let y = value-grows a s in rw e (omega arith))
-    (eq-zero-or-pos (a - c))
-
-pub value-more : (c : ℕ) (t : List ℕ) (i n : ℕ) → i < length t → min (valueFrom (min (n * 10 + (getD t i 0 - 48)) c) (drop (i + 1) t)) c ≡ min (valueFrom n (drop i t)) c
-value-more c t i n h = rw (add-one i, drop-cons t i 0 h) (value-capped c (n * 10 + (getD t i 0 - 48)) (drop (suc i) t))
-
-pub value-end : (t : List ℕ) (i n : ℕ) → length t ≤ i → valueFrom n (drop i t) ≡ n
-value-end t i n h = rw (drop-of-length-le t h)
 
 -- ---- zeros behind a number
 

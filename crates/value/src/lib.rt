@@ -2,11 +2,10 @@
 //! strategy read from their text.
 ghost use mathlib.Core.Path.{_≡_};
 ghost use mathlib.Core.Bool.{cond};
-ghost use Prim.Native.Nat.{_+_, _-_, _*_, _^_, _<_, _≤_, min};
+ghost use Prim.Native.Nat.{_*_, _^_, _<_, _≤_};
 ghost use lib.Ieee.{binary64, ofBits};
 ghost use lib.ListN.{length, take};
 ghost use Rattle.output.specs.Output.{output, Wrote};
-ghost use Rattle.output.specs.Read.{valueFrom};
 ghost use Rattle.message.specs.Message.{arg};
 ghost use Rattle.value.specs.Double.{exact1024, wholeOf, within, withinSigned};
 ghost use Rattle.value.specs.Integer.{biasedInteger, signed32, word};
@@ -323,43 +322,6 @@ pub enum Parameter {
     Bad,
 }
 
-// The number of a digit, 0 for a byte below the digits.
-fn digit_of(b: u8) -> u64
-    ensures { λ r. ⌜ r ≡ b - 48 ⌝ }
-{
-    if b < b'0' {
-        return 0;
-    }
-    (b - b'0') as u64
-}
-
-// n and one digit more, `most` at most.
-fn with_digit(n: u64, b: u8, most: u64) -> u64
-    ensures { λ r. ⌜ r ≡ min (n * 10 + (b - 48)) most ⌝ }
-{
-    let d = digit_of(b);
-    if most < d {
-        return most;
-    }
-    if (most - d) / 10 < n {
-        return most;
-    }
-    n * 10 + d
-}
-
-// The number that digits make, `most` at most.
-pub fn digits_value(t: &[u8], most: u64) -> u64
-    ensures { λ r. ⌜ r ≡ min (valueFrom 0 (now (t .entry))) most ⌝ }
-{
-    let mut n: u64 = 0;
-    let mut i = 0;
-    while i < t.len() {
-        n = with_digit(n, t[i], most);
-        i += 1;
-    }
-    n
-}
-
 // n · 10^places.
 fn scaled(n: u64, places: usize) -> u64
     requires { ⌜ (n ≤ 10000000000) × (places ≤ 6) ⌝ }
@@ -420,8 +382,12 @@ fn read_decimal(t: &[u8], places: usize, least: u64, most: u64) -> Parameter
     if places < fraction.len() {
         return Parameter::Bad;
     }
-    let high = scaled(digits_value(whole, 10000000000), places);
-    let number = high + scaled(digits_value(fraction, 10000000000), places - fraction.len());
+    let high = scaled(numbers::digits_value(whole, 10000000000), places);
+    let number = high
+        + scaled(
+            numbers::digits_value(fraction, 10000000000),
+            places - fraction.len(),
+        );
     if (number < least) | (most < number) {
         return Parameter::Bad;
     }

@@ -11,8 +11,9 @@ use Rattle.input.proofs.SpaceLaws as space
 use Rattle.input.proofs.word.Reads as word
 use Rattle.input.proofs.word.Kinds as word-kinds
 use Rattle.input.proofs.+word.Lts-word as word-lts
-use Rattle.input.proofs.behind_space.Reads as behind-space-reads
+use Rattle.texts.proofs.behind.Reads as behind-reads
 use Rattle.texts.proofs.len_before.Reads as len-before-reads
+use Rattle.texts.proofs.BeforeLaws.{before-within, before-is}
 use Rattle.input.proofs.+word.{statement}
 use Rattle.input.proofs.+word.Tie.{close}
 
@@ -28,18 +29,18 @@ word-below t = and 1 word-kinds.ps (falls 1 word-kinds.ps _<_ μ-word t) word.Pr
 pub +word-spec : {M : Type 1} → statement M
 +word-spec =
     close μ-word λ t.
-    word-lts.spec (len-before-reads.Asked, len-before-reads.Learnt, behind-space-reads.Asked, behind-space-reads.Learnt, word-below t, word.Post) (word-at t) word.Post
+    word-lts.spec (len-before-reads.Asked, len-before-reads.Learnt, behind-reads.Asked, behind-reads.Learnt, word-below t, word.Post) (word-at t) word.Post
     (λ c κs. search needs)
     (λ c.
     let s = c .before .before .before .before .args .line .now in
     let n = c .before .len-before .result in
-    sym (length-take-le n s (space.before-within 32 s n (c .before .len-before .ensures))))
+    sym (length-take-le n s (before-within 32 s n (c .before .len-before .ensures))))
     (λ c.
     let s = c .before .before .before .before .args .line .now in
-    space.before-is 32 s (c .before .len-before .result) (c .before .len-before .ensures) ∙ space.word-first (c .before .before .before .before .args .k) s (c .before .before .if1 .taken))
+    before-is 32 s (c .before .len-before .result) (c .before .len-before .ensures) ∙ space.word-first (c .before .before .before .before .args .k) s (c .before .before .if1 .taken))
     (λ c κs. search needs)
     (λ c. search needs)
     (λ c κs. (omega arith, tt))
     (λ c.
     let a = c .before .before .before .before .args in
-    c .word .ensures ∙ (ap (wordAt _) (c .before .behind-space .ensures) ∙ space.word-next (a .k) (a .line .now) (c .before .before .if1 .left)))
+    c .word .ensures ∙ (ap (wordAt _) (c .before .behind .ensures) ∙ space.word-next (a .k) (a .line .now) (c .before .before .if1 .left)))

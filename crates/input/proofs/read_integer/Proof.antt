@@ -2,17 +2,17 @@
 use borrow.Author.Needs.{needs}
 use mathlib.Core.Path.{_≡_, sym, _∙_}
 use Rattle.output.specs.Read.{readInteger}
-use Rattle.input.specs.declared.Number.the-variants.{Is}
-use Rattle.input.specs.Words.{numberOf}
+use Rattle.numbers.specs.declared.Number.the-variants.{Is}
+use Rattle.numbers.specs.Number.{numberOf}
 use Rattle.input.proofs.SignedLaws as signed
 use Rattle.input.proofs.read_integer.Statement.{statement}
 use Rattle.input.proofs.read_integer.Tie as tie
 
 returns : tie.Need-returns
-returns c = signed.no-integer (readInteger (c .before .before .before .before .args .t .now)) (sym (c .enum-told .given .1) ∙ c .before .before .read-biased .ensures)
+returns c = signed.no-integer (readInteger (c .before .before .before .before .args .t .now)) (sym (c .enum-told .given .1) ∙ c .before .before .read-integer .ensures)
 
 is : (c : tie.After-known-told) → Is (c .before .v .given .0 .0) ≡ numberOf (readInteger (c .before .before .before .before .before .args .t .now))
-is c = sym (c .before .v .given .1) ∙ c .before .before .before .read-biased .ensures
+is c = sym (c .before .v .given .1) ∙ c .before .before .before .read-integer .ensures
 
 cast-t4 : tie.Need-cast-t4
 cast-t4 c = signed.wide-fits (c .before .before .before .before .before .args .t .now) _ (is c)

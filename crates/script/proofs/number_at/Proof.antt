@@ -4,7 +4,7 @@ use Prim.Native.Nat.{ℕ}
 use mathlib.Core.Path.{ap, _∙_}
 use mathlib.Core.List.{List}
 use Rattle.output.specs.Read.{readDecimal}
-use Rattle.input.specs.Words.{numberOf}
+use Rattle.numbers.specs.Number.{numberOf}
 use Rattle.script.specs.Script.{numberAt}
 use Rattle.script.proofs.number_at.Statement.{statement}
 use Rattle.script.proofs.number_at.Tie as tie
