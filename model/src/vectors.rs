@@ -1,4 +1,4 @@
-//! The stored script: what is written by hand, then the escapes and generated scripts.
+//! The stored script: what is written by hand, then the starts of sheets, the escapes and generated scripts.
 
 use crate::encode;
 use crate::generate::{self, Profile};
@@ -11,6 +11,7 @@ const BY_HAND: &[(&str, &str)] = &[
     ("refusals", include_str!("../vectors/refusals.txt")),
     ("lines", include_str!("../vectors/lines.txt")),
     ("sheets", include_str!("../vectors/sheets.txt")),
+    ("opening", include_str!("../vectors/opening.txt")),
     ("values", include_str!("../vectors/values.txt")),
     ("machine", include_str!("../vectors/machine.txt")),
     ("levels", include_str!("../vectors/levels.txt")),
@@ -24,6 +25,9 @@ const BY_HAND: &[(&str, &str)] = &[
 /// What stands before and behind the lines of the 256 escapes, parted by an empty line.
 const AROUND_ESCAPES: &str = include_str!("../vectors/escapes.txt");
 
+/// Sheets, of each of which every start is opened as well.
+const STARTS: &str = include_str!("../vectors/starts.txt");
+
 /// Seeds of generated scripts with few sensors.
 const SMALL_SEEDS: std::ops::Range<u64> = 1_000_000..1_000_070;
 
@@ -36,7 +40,20 @@ const CALLS: usize = 300;
 /// The scripts with the answers that the papers give, in order.
 pub fn with_answers() -> Vec<(&'static str, String)> {
     let by_hand = BY_HAND.iter().map(|&(name, text)| (name, text.to_string()));
-    by_hand.chain([("escapes", escapes())]).collect()
+    by_hand.chain([("starts", starts()), ("escapes", escapes())]).collect()
+}
+
+/// "Nothing follows", and nothing is left out: before each sheet all of its starts, the shortest first.
+fn starts() -> String {
+    let script = encode::encode(STARTS).expect("sheets");
+    script.lines().map(|line| before_sheet(line) + line + "\n").collect()
+}
+
+/// "sheet breaks its layout | 4": the starts of the sheet that a line opens; before any other line nothing.
+fn before_sheet(line: &str) -> String {
+    let sheet = line.strip_prefix("open ").unwrap_or_default();
+    let start = |digits| if digits == 0 { "-" } else { &sheet[..digits] };
+    (0..sheet.len()).step_by(2).map(|digits| format!("open {}\n;= 4\n", start(digits))).collect()
 }
 
 /// "a test puts each of the 256 bytes after a backslash" (document 02, (c)), `@` last.

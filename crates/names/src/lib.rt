@@ -29,7 +29,7 @@ fn no_places(number: u8) -> Listed
 }
 
 // How many sensors of a sheet of that count a State holds.
-fn held(count: u8) -> usize
+fn sensors_in(count: u8) -> usize
     ensures { λ r. ⌜ r ≡ min count 32 ⌝ }
 {
     if count < 32 { count as usize } else { 32 }
@@ -89,7 +89,7 @@ fn with_place(list: Listed, j: usize) -> Listed
 pub fn scan(sheet: Sheet, names: &[u8]) -> Listed
     ensures { λ r. ⌜ r ≡ scans.scanned sheet (scans.placesNamed sheet (now (names .entry))) ⌝ }
 {
-    let most = held(sheet.count);
+    let most = sensors_in(sheet.count);
     let mut list = no_places(0);
     let mut from: usize = 0;
     'names: while from <= names.len() {
@@ -116,7 +116,7 @@ pub fn scan(sheet: Sheet, names: &[u8]) -> Listed
 pub fn every_place(count: u8) -> Listed
     ensures { λ r. ⌜ r ≡ scans.listing 0 (tabulate (λ j. j) (min count 32)) ⌝ }
 {
-    let most = held(count);
+    let most = sensors_in(count);
     let mut places: [u8; 32] = [0; 32];
     let mut j: usize = 0;
     while j < most {

@@ -27,8 +27,8 @@ loop-again c = (omega arith, rw (c .before .loop .inv .1) (filled-one (λ j. j) 
 
 returns : tie.Need-returns Inv-loop μ-loop
 returns c =
-    let e : c .before .loop .j ≡ min (c .before .before .before .args .count) 32 = omega (arith, c .before .before .held .ensures) in
-    rw (c .before .loop .inv .1, e, c .before .before .held .ensures) (listing-of 0 (min (c .before .before .before .args .count) 32) (tabulate (λ j. j) (min (c .before .before .before .args .count) 32)) (sym (length-tabulate (λ j. j) (min (c .before .before .before .args .count) 32))))
+    let e : c .before .loop .j ≡ min (c .before .before .before .args .count) 32 = omega (arith, c .before .before .sensors-in .ensures) in
+    rw (c .before .loop .inv .1, e, c .before .before .sensors-in .ensures) (listing-of 0 (min (c .before .before .before .args .count) 32) (tabulate (λ j. j) (min (c .before .before .before .args .count) 32)) (sym (length-tabulate (λ j. j) (min (c .before .before .before .args .count) 32))))
 
 pub every-place-spec : {M : Type 1} → statement M
 every-place-spec =

@@ -59,13 +59,13 @@ place-is : (c : tie.Left-sensors Inv-sensors μ-sensors Inv-names μ-names)
     → c .before .sensors .j ≡ placeIn (start c .args .t1) (take (c .before .before .before .before .before .names .from + c .before .before .first-len .result - c .before .before .before .before .before .names .from) (drop (c .before .before .before .before .before .names .from) (start c .args .names .now)))
 place-is c =
     ⊎-elim
-    (λ w. searching-none (c .before .sensors .inv) (omega (arith, c .before .before .before .before .before .before .before .held .ensures)))
-    (λ w. searching-found (c .before .sensors .inv) (sym (w .3 .ensures) ∙ w .4 .taken) (omega (arith, w .0 .taken, c .before .before .before .before .before .before .before .held .ensures)))
+    (λ w. searching-none (c .before .sensors .inv) (omega (arith, c .before .before .before .before .before .before .before .sensors-in .ensures)))
+    (λ w. searching-found (c .before .sensors .inv) (sym (w .3 .ensures) ∙ w .4 .taken) (omega (arith, w .0 .taken, c .before .before .before .before .before .before .before .sensors-in .ensures)))
     (c .sensors-test .came)
 
 -- and where that is not the count, it is a sensor's
 on-sheet : (c : tie.Else2 Inv-sensors μ-sensors Inv-names μ-names) → c .before .before .sensors .j < held (start (c .before) .args .t1)
-on-sheet c = known (c .before .before .before .before .before .before .names .inv) (c .before .before .before .before .before .names-test .taken) (c .before .before .before .first-len .ensures) (place-is (c .before)) (λ e. c .if2 .left (e ∙ sym (c .before .before .before .before .before .before .before .before .held .ensures)))
+on-sheet c = known (c .before .before .before .before .before .before .names .inv) (c .before .before .before .before .before .names-test .taken) (c .before .before .before .first-len .ensures) (place-is (c .before)) (λ e. c .if2 .left (e ∙ sym (c .before .before .before .before .before .before .before .before .sensors-in .ensures)))
 
 with-place-requires : tie.Need-with-place-requires Inv-sensors μ-sensors Inv-names μ-names
 with-place-requires c κs = (c .before .before .before .before .before .before .names .inv .fit, omega (arith, on-sheet c))
@@ -83,7 +83,7 @@ returns : tie.Need-returns Inv-sensors μ-sensors Inv-names μ-names
 returns c = scanning-end (c .before .names .inv) (omega arith)
 
 returns-2 : tie.Need-returns-2 Inv-sensors μ-sensors Inv-names μ-names
-returns-2 c = c .no-places2 .ensures ∙ scanning-unknown (c .before .before .before .before .before .before .before .names .inv) (c .before .before .before .before .before .before .names-test .taken) (c .before .before .before .before .first-len .ensures) (place-is (c .before .before)) (c .before .if2 .taken ∙ c .before .before .before .before .before .before .before .before .before .held .ensures)
+returns-2 c = c .no-places2 .ensures ∙ scanning-unknown (c .before .before .before .before .before .before .before .names .inv) (c .before .before .before .before .before .before .names-test .taken) (c .before .before .before .before .first-len .ensures) (place-is (c .before .before)) (c .before .if2 .taken ∙ c .before .before .before .before .before .before .before .before .before .sensors-in .ensures)
 
 pub scan-spec : {M : Type 1} → statement M
 scan-spec =
