@@ -5,27 +5,41 @@ ghost use mathlib.Core.Path.{_≡_};
 ghost use Rattle.machine.specs.State.{startLevel, noSubscription, blankClient};
 ghost use Rattle.machine.specs.Range.{isNone};
 
-// The most sensors of a sheet, the clients, and the subscriptions of each client to each sensor.
+// The most sensors of a sheet.
 pub const SENSORS: usize = 32;
+// The clients.
 pub const CLIENTS: usize = 8;
+// The subscriptions, of each client to each sensor.
 pub const PAIRS: usize = CLIENTS * SENSORS;
 // The most options of a sensor.
 pub const OPTIONS: usize = 8;
-// The bytes of a sensor's name, of its description, of its units and of an option, of the API text and the build text, and of an address.
+// The most bytes of a sensor's name.
 pub const NAME: usize = 32;
+// Of its description.
 pub const DESCRIPTION: usize = 64;
+// Of its units.
 pub const UNITS: usize = 8;
+// Of an option.
 pub const OPTION: usize = 16;
+// Of the API text and of the build text.
 pub const TITLE: usize = 32;
+// Of a client's address.
 pub const ADDRESS: usize = 48;
-// The same as bytes of a sheet or of a state.
+// The same as bytes of a sheet and of a state: sensors.
 pub const MOST_SENSORS: u8 = SENSORS as u8;
+// Options.
 pub const MOST_OPTIONS: u8 = OPTIONS as u8;
+// The length of a name.
 pub const LONGEST_NAME: u8 = NAME as u8;
+// Of a description.
 pub const LONGEST_DESCRIPTION: u8 = DESCRIPTION as u8;
+// Of units.
 pub const LONGEST_UNITS: u8 = UNITS as u8;
+// Of an option.
 pub const LONGEST_OPTION: u8 = OPTION as u8;
+// Of the API text and of the build text.
 pub const LONGEST_TITLE: u8 = TITLE as u8;
+// Of an address.
 pub const LONGEST_ADDRESS: u8 = ADDRESS as u8;
 
 // An option of a discrete sensor: the first `len` bytes of `text`.

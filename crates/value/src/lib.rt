@@ -16,7 +16,9 @@ ghost use Rattle.value.specs.Status.{rangeStatus, statusOf, statusText};
 ghost use Rattle.value.specs.Value.{valueText};
 ghost use Rattle.value.specs.Parameter.{whole, wholeOk, fractionOk, behindPoint, units, decimalOk, integerDifferenceOf, floatDifferenceOf, periodOf, shortestOf};
 
-// The stored number of the float 0, as `output` has it.
+// The stored number of the integer 0, as `output` has it, and signed.
+const INTEGER_ZERO: i64 = output::INTEGER_ZERO as i64;
+// The stored number of the float 0, in the width of a Fit.
 const FLOAT_ZERO: u32 = output::FLOAT_ZERO as u32;
 // The largest stored number of a float.
 pub const MOST_FLOAT: u64 = 2147483648;
@@ -32,8 +34,9 @@ pub const LONGEST_PERIOD: u64 = 86400000;
 pub const MOST_FLOAT_DIFFERENCE: u64 = 2097152000000;
 // Digits are read up to this number, above every number that a parameter may have before or behind its point.
 const MOST_DIGITS: u64 = 10000000000;
-// The sign bit of a double, and the implicit bit above its fraction.
+// The sign bit of a double.
 const SIGN: u64 = 0x8000_0000_0000_0000;
+// The implicit bit above its fraction.
 const IMPLICIT: u64 = 0x10_0000_0000_0000;
 
 // A number of 1024ths plus 2^30, or nothing that fits.
@@ -107,7 +110,7 @@ pub fn exact_1024ths(x: f64) -> Fit
 pub fn biased_integer(x: i32) -> u64
     ensures { λ r. ⌜ r ≡ biasedInteger x ⌝ }
 {
-    (x as i64 + 2147483648) as u64
+    (x as i64 + INTEGER_ZERO) as u64
 }
 
 // Four bytes of a sheet, a signed big-endian number, plus 2^31: the sign bit turned over.
