@@ -44,10 +44,10 @@ pub fn client_rows(refused: bool, client: usize, own: u8) -> u8
 }
 
 // Whether a client of that number is connected.
-pub fn is_connected(clients: [Client; 8], client: usize) -> bool
+pub fn is_connected(clients: [Client; machine::CLIENTS], client: usize) -> bool
     ensures { λ r. ⌜ r ≡ getD clients client states.noClient .connected ⌝ }
 {
-    if client < 8 {
+    if client < machine::CLIENTS {
         let k = clients[client];
         return k.connected;
     }

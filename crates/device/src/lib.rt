@@ -39,7 +39,7 @@ pub fn open(sheet: &[u8]) -> Opened
 fn address_row(address: &[u8]) -> u8
     ensures { λ r. ⌜ r ≡ cond (calls.addressFits (now (address .entry))) 0 7 ⌝ }
 {
-    if rules::text_fits(address, 1, 48, Charset::Graphic) {
+    if rules::text_fits(address, 1, machine::ADDRESS, Charset::Graphic) {
         0
     } else {
         7
@@ -50,7 +50,7 @@ fn address_row(address: &[u8]) -> u8
 fn tick_row(clock: u64, ms: u64) -> u8
     ensures { λ r. ⌜ r ≡ cond (leb clock ms && inTime ms) 0 8 ⌝ }
 {
-    if (clock <= ms) & (ms <= 9999999999999) {
+    if (clock <= ms) & (ms <= value::LAST_TIME) {
         0
     } else {
         8
@@ -68,7 +68,7 @@ fn sensor_row(count: u8, sensor: usize) -> u8
 fn entry_row(level: u8, logger: &[u8], message: &[u8]) -> u8
     ensures { λ r. ⌜ r ≡ cond (calls.entryFits level (now (logger .entry)) (now (message .entry))) 0 11 ⌝ }
 {
-    let named = rules::text_fits(logger, 1, 32, Charset::Name);
+    let named = rules::text_fits(logger, 1, machine::NAME, Charset::Name);
     let plain = rules::text_fits(message, 0, 256, Charset::Entry);
     if ((1 <= level) & (level <= 6)) & (named & plain) {
         0
@@ -85,7 +85,7 @@ fn newcomer(number: u8, address: &[u8]) -> Client
     if number != 0 {
         return machine::blank_client();
     }
-    let mut text = [0; 48];
+    let mut text = [0; machine::ADDRESS];
     output::put_bytes(&mut text, 0, address);
     Client {
         connected: true,
@@ -98,11 +98,15 @@ fn newcomer(number: u8, address: &[u8]) -> Client
 fn cleared(number: u8) -> usize
     ensures { λ r. ⌜ r ≡ cond (eqb number 0) 32 0 ⌝ }
 {
-    if number == 0 { 32 } else { 0 }
+    if number == 0 { machine::SENSORS } else { 0 }
 }
 
 // The subscriptions without those of a client; as they were where the call is declined.
-fn without_client(number: u8, pairs: [Subscription; 256], client: usize) -> [Subscription; 256]
+fn without_client(
+    number: u8,
+    pairs: [Subscription; machine::PAIRS],
+    client: usize,
+) -> [Subscription; machine::PAIRS]
     requires { ⌜ (number ≡ 0 → client < 8) ⌝ }
     ensures { λ r. ⌜ r ≡ cond (eqb number 0) (tabulate (λ p. cond (eqb (p / 32) client) states.noSubscription (getD pairs p states.noSubscription)) 256) pairs ⌝ }
 {
@@ -110,14 +114,19 @@ fn without_client(number: u8, pairs: [Subscription; 256], client: usize) -> [Sub
     let mut left = pairs;
     let mut j: usize = 0;
     while j < most {
-        left[client * 32 + j] = machine::no_subscription();
+        left[client * machine::SENSORS + j] = machine::no_subscription();
         j += 1;
     }
     left
 }
 
 // The clients with `k` in a place; as they were where the call is declined.
-fn with_newcomer(number: u8, clients: [Client; 8], client: usize, k: Client) -> [Client; 8]
+fn with_newcomer(
+    number: u8,
+    clients: [Client; machine::CLIENTS],
+    client: usize,
+    k: Client,
+) -> [Client; machine::CLIENTS]
     requires { ⌜ (number ≡ 0 → client < 8) ⌝ }
     ensures { λ r. ⌜ r ≡ cond (eqb number 0) (tabulate (λ i. cond (eqb i client) k (getD clients i states.noClient)) 8) clients ⌝ }
 {
@@ -231,11 +240,11 @@ fn sample_row(before: u8, sampled: Sampled) -> u8
 // The readings with a sensor's, at a clock; as they were where the call is declined.
 fn with_reading(
     number: u8,
-    readings: [Stored; 32],
+    readings: [Stored; machine::SENSORS],
     sensor: usize,
     sampled: Sampled,
     clock: u64,
-) -> [Stored; 32]
+) -> [Stored; machine::SENSORS]
     requires { ⌜ sensor < 32 ⌝ }
     ensures { λ r. ⌜ r ≡ cond (eqb number 0) (readingsAfter readings sensor sampled clock) readings ⌝ }
 {
@@ -261,7 +270,7 @@ pub fn reading(state: State, sensor: usize, reading: Reading, out: &mut [u8]) ->
     let stored = state.readings;
     let own = sensor_row(sheet.count, sensor);
     let before = declining::rows(sheet::in_range(state), out.len(), state.halted, own);
-    let place = sensor % 32;
+    let place = sensor % machine::SENSORS;
     let listed = sheet.sensors[place];
     let sampled = value::sample_of(listed.kind, listed.option_count, reading);
     let number = sample_row(before, sampled);
@@ -280,7 +289,7 @@ pub fn reading(state: State, sensor: usize, reading: Reading, out: &mut [u8]) ->
 fn put_entry(
     number: u8,
     out: &mut [u8],
-    clients: [Client; 8],
+    clients: [Client; machine::CLIENTS],
     set: u8,
     level: u8,
     clock: u64,

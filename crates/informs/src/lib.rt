@@ -139,7 +139,7 @@ fn entry_if(
 // A log entry to all connected clients, from the start of out.
 pub fn entry_to_all(
     out: &mut [u8],
-    clients: [Client; 8],
+    clients: [Client; machine::CLIENTS],
     level: u8,
     clock: u64,
     logger: &[u8],
@@ -149,7 +149,7 @@ pub fn entry_to_all(
 {
     let mut at: usize = 0;
     let mut c: usize = 0;
-    while c < 8 {
+    while c < machine::CLIENTS {
         let client = clients[c];
         at = entry_if(
             client.connected,
@@ -180,7 +180,7 @@ fn inform_if(there: bool, out: &mut [u8], at: usize, client: u8, name: &[u8], a:
 pub fn inform_others(
     out: &mut [u8],
     at: usize,
-    clients: [Client; 8],
+    clients: [Client; machine::CLIENTS],
     but: usize,
     name: &[u8],
     a: &[u8],
@@ -189,7 +189,7 @@ pub fn inform_others(
 {
     let mut p = at;
     let mut c: usize = 0;
-    while c < 8 {
+    while c < machine::CLIENTS {
         let client = clients[c];
         p = inform_if(client.connected & (c != but), out, p, c as u8, name, a);
         c += 1;

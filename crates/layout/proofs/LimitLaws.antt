@@ -4,10 +4,10 @@ use native.Mathlib.Omega.{arith}
 use mathlib.Core.Path.{_≡_, refl, ap, sym, _∙_, subst}
 use mathlib.Core.Bool.{Bool, true, false, cond}
 use mathlib.Core.List.{List}
-use lib.Dec.{leb}
+use lib.Dec.{eqb, leb}
 use lib.ListN.{length, take, drop, length-drop}
 use lib.Seq.{length-take-le}
-use borrow.Author.Tests.{leb-true, eq-eqb, ne-eqb}
+use borrow.Author.Tests.{leb-true}
 use Rattle.value.specs.declared.Fit.{Fit}
 use Rattle.value.specs.declared.Limits.{Limits}
 use Rattle.value.specs.Double.{withinSigned}
@@ -47,13 +47,13 @@ module _ (t : ℕ) (s : List ℕ) where
   limit-none e = rw e
 
   module _ (w rest : List ℕ) (e : bytesAt 4 s ≡ taken w rest) where
-    pub limit-integer : (n : ℕ) → t ≡ 1 → n ≡ biasedInteger (signedIn w) → taken n rest ≡ limitAt t s
+    pub limit-integer : (n : ℕ) → eqb t 1 ≡ true → n ≡ biasedInteger (signedIn w) → taken n rest ≡ limitAt t s
     unfolding limitAt
-    limit-integer n h k = rw (e, eq-eqb t 1 h, k)
+    limit-integer n h k = rw (e, h, k)
 
-    pub limit-float : (f : Fit) → (t ≡ 1 → ⊥) → f ≡ withinSigned (signedIn w) → onGrid f rest ≡ limitAt t s
+    pub limit-float : (f : Fit) → eqb t 1 ≡ false → f ≡ withinSigned (signedIn w) → onGrid f rest ≡ limitAt t s
     unfolding limitAt
-    limit-float f h k = rw (e, ne-eqb t 1 h, k)
+    limit-float f h k = rw (e, h, k)
 
 -- four limits of two and two
 abbrev pub fourOf : Limits → Limits → Limits

@@ -7,6 +7,7 @@ use value::Fit;
 use value::Limits;
 ghost use mathlib.Core.Path.{_≡_};
 ghost use Prim.Native.Nat.{_≤_};
+ghost use lib.Dec.{eqb};
 ghost use lib.ListN.{length};
 ghost use mathlib.Core.Bool.{false};
 ghost use Rattle.machine.specs.Sheet.{noLimits};
@@ -66,7 +67,7 @@ fn blank_choice() -> Choice
     ensures { λ r. ⌜ r ≡ blankChoice ⌝ }
 {
     Choice {
-        text: [0; 16],
+        text: [0; machine::OPTION],
         len: 0,
     }
 }
@@ -87,16 +88,16 @@ fn blank_sensor() -> Sensor
     ensures { λ r. ⌜ r ≡ blankSensor ⌝ }
 {
     Sensor {
-        name: [0; 32],
+        name: [0; machine::NAME],
         name_len: 0,
-        description: [0; 64],
+        description: [0; machine::DESCRIPTION],
         description_len: 0,
-        units: [0; 8],
+        units: [0; machine::UNITS],
         units_len: 0,
         kind: 0,
         limits: no_limits(),
         option_count: 0,
-        options: [blank_choice(); 8],
+        options: [blank_choice(); machine::OPTIONS],
     }
 }
 
@@ -105,12 +106,12 @@ pub fn blank_sheet() -> Sheet
     ensures { λ r. ⌜ r ≡ blankSheet ⌝ }
 {
     Sheet {
-        api: [0; 32],
+        api: [0; machine::TITLE],
         api_len: 0,
-        build: [0; 32],
+        build: [0; machine::TITLE],
         build_len: 0,
         count: 0,
-        sensors: [blank_sensor(); 32],
+        sensors: [blank_sensor(); machine::SENSORS],
     }
 }
 
@@ -186,43 +187,54 @@ fn text_at(s: &[u8], c: Cursor, most: u8) -> TextTaken
 }
 
 // A text in an array of 8 bytes.
-fn padded_8(t: &[u8]) -> [u8; 8]
+fn padded_8(t: &[u8]) -> [u8; machine::UNITS]
     requires { ⌜ length (now t) ≤ 8 ⌝ }
     ensures { λ r. ⌜ r ≡ opening.padded 8 (now (t .entry)) ⌝ }
 {
-    let mut array = [0u8; 8];
+    let mut array = [0u8; machine::UNITS];
     output::put_bytes(&mut array, 0, t);
     array
 }
 
 // A text in an array of 16 bytes.
-fn padded_16(t: &[u8]) -> [u8; 16]
+fn padded_16(t: &[u8]) -> [u8; machine::OPTION]
     requires { ⌜ length (now t) ≤ 16 ⌝ }
     ensures { λ r. ⌜ r ≡ opening.padded 16 (now (t .entry)) ⌝ }
 {
-    let mut array = [0u8; 16];
+    let mut array = [0u8; machine::OPTION];
     output::put_bytes(&mut array, 0, t);
     array
 }
 
 // A text in an array of 32 bytes.
-fn padded_32(t: &[u8]) -> [u8; 32]
+fn padded_32(t: &[u8]) -> [u8; machine::NAME]
     requires { ⌜ length (now t) ≤ 32 ⌝ }
     ensures { λ r. ⌜ r ≡ opening.padded 32 (now (t .entry)) ⌝ }
 {
-    let mut array = [0u8; 32];
+    let mut array = [0u8; machine::NAME];
     output::put_bytes(&mut array, 0, t);
     array
 }
 
 // A text in an array of 64 bytes.
-fn padded_64(t: &[u8]) -> [u8; 64]
+fn padded_64(t: &[u8]) -> [u8; machine::DESCRIPTION]
     requires { ⌜ length (now t) ≤ 64 ⌝ }
     ensures { λ r. ⌜ r ≡ opening.padded 64 (now (t .entry)) ⌝ }
 {
-    let mut array = [0u8; 64];
+    let mut array = [0u8; machine::DESCRIPTION];
     output::put_bytes(&mut array, 0, t);
     array
+}
+
+// Whether a type's limits are integers, and not counts of 1024ths.
+fn is_integer(kind: u8) -> bool
+    ensures { λ r. ⌜ r ≡ eqb kind 1 ⌝ }
+{
+    match kind {
+        1 => true,
+        2 => false,
+        _ => false,
+    }
 }
 
 // A limit of a sensor of type `kind`.
@@ -238,7 +250,7 @@ fn limit_at(s: &[u8], c: Cursor, kind: u8) -> NumberTaken
     let third = w[2];
     let fourth = w[3];
     let next = Cursor { at: e };
-    if kind == 1 {
+    if is_integer(kind) {
         return NumberTaken::Number(value::biased_word(first, second, third, fourth), next);
     }
     if let Fit::At(n) = value::grid_word(first, second, third, fourth) {
@@ -306,7 +318,7 @@ fn limits_at(s: &[u8], c: Cursor, kind: u8) -> LimitsTaken
 fn choice_at(s: &[u8], c: Cursor) -> ChoiceTaken
     ensures { λ r. ⌜ reads.choiceOf (now (s .entry)) r ≡ opening.choiceAt (reads.behind (now (s .entry)) c) ⌝ }
 {
-    let TextTaken::Span(a, e) = text_at(s, c, 16) else {
+    let TextTaken::Span(a, e) = text_at(s, c, machine::LONGEST_OPTION) else {
         return no_choice();
     };
     let text = padded_16(&s[a..e]);
@@ -325,7 +337,7 @@ fn choices_at(s: &[u8], c: Cursor, count: u8, sensor: Sensor) -> SensorTaken
     requires { ⌜ count ≤ 8 ⌝ }
     ensures { λ r. ⌜ reads.sensorOf (now (s .entry)) r ≡ reads.takenOptions sensor (opening.manyAt opening.choiceAt count (reads.behind (now (s .entry)) c)) ⌝ }
 {
-    let mut options = [blank_choice(); 8];
+    let mut options = [blank_choice(); machine::OPTIONS];
     let mut next = c;
     let mut k: usize = 0;
     while k < count as usize {
@@ -356,7 +368,7 @@ fn options_at(s: &[u8], c: Cursor, sensor: Sensor) -> SensorTaken
     let ByteTaken::Byte(count, next) = byte_at(s, c) else {
         return no_sensor();
     };
-    if count <= 8 {
+    if count <= machine::MOST_OPTIONS {
         return choices_at(s, next, count, sensor);
     }
     no_sensor()
@@ -366,13 +378,13 @@ fn options_at(s: &[u8], c: Cursor, sensor: Sensor) -> SensorTaken
 fn head_at(s: &[u8], c: Cursor) -> SensorTaken
     ensures { λ r. ⌜ reads.sensorOf (now (s .entry)) r ≡ opening.headAt (reads.behind (now (s .entry)) c) ⌝ }
 {
-    let TextTaken::Span(a, b) = text_at(s, c, 32) else {
+    let TextTaken::Span(a, b) = text_at(s, c, machine::LONGEST_NAME) else {
         return no_sensor();
     };
-    let TextTaken::Span(d, e) = text_at(s, Cursor { at: b }, 64) else {
+    let TextTaken::Span(d, e) = text_at(s, Cursor { at: b }, machine::LONGEST_DESCRIPTION) else {
         return no_sensor();
     };
-    let TextTaken::Span(u, v) = text_at(s, Cursor { at: e }, 8) else {
+    let TextTaken::Span(u, v) = text_at(s, Cursor { at: e }, machine::LONGEST_UNITS) else {
         return no_sensor();
     };
     let ByteTaken::Byte(kind, next) = byte_at(s, Cursor { at: v }) else {
@@ -388,7 +400,7 @@ fn head_at(s: &[u8], c: Cursor) -> SensorTaken
         kind: kind,
         limits: no_limits(),
         option_count: 0,
-        options: [blank_choice(); 8],
+        options: [blank_choice(); machine::OPTIONS],
     };
     SensorTaken {
         taken: true,
@@ -451,7 +463,7 @@ fn sensors_at(s: &[u8], c: Cursor, count: u8, sheet: Sheet) -> SheetTaken
     requires { ⌜ count ≤ 32 ⌝ }
     ensures { λ r. ⌜ reads.sheetOf (now (s .entry)) r ≡ reads.takenSensors sheet (opening.manyAt opening.sensorAt count (reads.behind (now (s .entry)) c)) ⌝ }
 {
-    let mut sensors = [blank_sensor(); 32];
+    let mut sensors = [blank_sensor(); machine::SENSORS];
     let mut next = c;
     let mut k: usize = 0;
     while k < count as usize {
@@ -479,16 +491,16 @@ fn sensors_at(s: &[u8], c: Cursor, count: u8, sheet: Sheet) -> SheetTaken
 fn body_at(s: &[u8], c: Cursor) -> SheetTaken
     ensures { λ r. ⌜ reads.sheetOf (now (s .entry)) r ≡ opening.bodyAt (reads.behind (now (s .entry)) c) ⌝ }
 {
-    let TextTaken::Span(a, b) = text_at(s, c, 32) else {
+    let TextTaken::Span(a, b) = text_at(s, c, machine::LONGEST_TITLE) else {
         return no_sheet();
     };
-    let TextTaken::Span(d, e) = text_at(s, Cursor { at: b }, 32) else {
+    let TextTaken::Span(d, e) = text_at(s, Cursor { at: b }, machine::LONGEST_TITLE) else {
         return no_sheet();
     };
     let ByteTaken::Byte(count, next) = byte_at(s, Cursor { at: e }) else {
         return no_sheet();
     };
-    if 32 < count {
+    if machine::MOST_SENSORS < count {
         return no_sheet();
     }
     let api = padded_32(&s[a..b]);

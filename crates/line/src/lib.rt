@@ -12,6 +12,9 @@ ghost use Rattle.line.specs.Argument as arguments;
 ghost use Rattle.line.specs.Answer as answers;
 ghost use Rattle.line.specs.Words.{NextWord, IsWord};
 
+// The most bytes of a line.
+pub const LONGEST: usize = 2048;
+
 // What a backslash and a letter stand for.
 pub enum Meaning {
     Byte(u8),
@@ -342,14 +345,14 @@ fn head(w: &[u8], count: usize) -> Parsed
 pub fn is_blank(line: &[u8]) -> bool
     ensures { λ r. ⌜ r ≡ spec.blankLine (now (line .entry)) ⌝ }
 {
-    (line.len() <= 2048) & (lead(line) == line.len())
+    (line.len() <= LONGEST) & (lead(line) == line.len())
 }
 
 // A line that is not blank: the message that it is, or malformed, also where it has over 2,048 bytes.
 pub fn read(line: &[u8]) -> Parsed
     ensures { λ r. ⌜ r ≡ answers.answer (spec.parse (now (line .entry))) ⌝ }
 {
-    if 2048 < line.len() {
+    if LONGEST < line.len() {
         return Parsed::Malformed;
     }
     let Count::Are(count) = arguments(line) else {

@@ -5,35 +5,72 @@ ghost use mathlib.Core.Path.{_≡_};
 ghost use Rattle.machine.specs.State.{startLevel, noSubscription, blankClient};
 ghost use Rattle.machine.specs.Range.{isNone};
 
+// The most sensors of a sheet.
+pub const SENSORS: usize = 32;
+// The clients.
+pub const CLIENTS: usize = 8;
+// The subscriptions, of each client to each sensor.
+pub const PAIRS: usize = CLIENTS * SENSORS;
+// The most options of a sensor.
+pub const OPTIONS: usize = 8;
+// The most bytes of a sensor's name.
+pub const NAME: usize = 32;
+// Of its description.
+pub const DESCRIPTION: usize = 64;
+// Of its units.
+pub const UNITS: usize = 8;
+// Of an option.
+pub const OPTION: usize = 16;
+// Of the API text and of the build text.
+pub const TITLE: usize = 32;
+// Of a client's address.
+pub const ADDRESS: usize = 48;
+// The same as bytes of a sheet and of a state: sensors.
+pub const MOST_SENSORS: u8 = SENSORS as u8;
+// Options.
+pub const MOST_OPTIONS: u8 = OPTIONS as u8;
+// The length of a name.
+pub const LONGEST_NAME: u8 = NAME as u8;
+// Of a description.
+pub const LONGEST_DESCRIPTION: u8 = DESCRIPTION as u8;
+// Of units.
+pub const LONGEST_UNITS: u8 = UNITS as u8;
+// Of an option.
+pub const LONGEST_OPTION: u8 = OPTION as u8;
+// Of the API text and of the build text.
+pub const LONGEST_TITLE: u8 = TITLE as u8;
+// Of an address.
+pub const LONGEST_ADDRESS: u8 = ADDRESS as u8;
+
 // An option of a discrete sensor: the first `len` bytes of `text`.
 pub struct Choice {
-    pub text: [u8; 16],
+    pub text: [u8; OPTION],
     pub len: u8,
 }
 
 // A sensor as the sheet has it. A text is the first `_len` bytes of its array; the type is 1 integer, 2 float, 3 boolean, 4 discrete,
 // 5 timestamp; limits and options are those of the types that have them.
 pub struct Sensor {
-    pub name: [u8; 32],
+    pub name: [u8; NAME],
     pub name_len: u8,
-    pub description: [u8; 64],
+    pub description: [u8; DESCRIPTION],
     pub description_len: u8,
-    pub units: [u8; 8],
+    pub units: [u8; UNITS],
     pub units_len: u8,
     pub kind: u8,
     pub limits: Limits,
     pub option_count: u8,
-    pub options: [Choice; 8],
+    pub options: [Choice; OPTIONS],
 }
 
 // The sheet that the unit was opened with: its first `count` sensors.
 pub struct Sheet {
-    pub api: [u8; 32],
+    pub api: [u8; TITLE],
     pub api_len: u8,
-    pub build: [u8; 32],
+    pub build: [u8; TITLE],
     pub build_len: u8,
     pub count: u8,
-    pub sensors: [Sensor; 32],
+    pub sensors: [Sensor; SENSORS],
 }
 
 // A strategy with its parameters: periods in milliseconds, differences in millionths; shortest before longest.
@@ -64,7 +101,7 @@ pub struct Stored {
 // A client: unconnected, or with the first `address_len` bytes of its address.
 pub struct Client {
     pub connected: bool,
-    pub address: [u8; 48],
+    pub address: [u8; ADDRESS],
     pub address_len: u8,
 }
 
@@ -74,9 +111,9 @@ pub struct State {
     pub clock: u64,
     pub halted: bool,
     pub level: u8,
-    pub readings: [Stored; 32],
-    pub clients: [Client; 8],
-    pub subscriptions: [Subscription; 256],
+    pub readings: [Stored; SENSORS],
+    pub clients: [Client; CLIENTS],
+    pub subscriptions: [Subscription; PAIRS],
 }
 
 // What opening a sheet answers.
@@ -143,7 +180,7 @@ pub fn blank_client() -> Client
 {
     Client {
         connected: false,
-        address: [0; 48],
+        address: [0; ADDRESS],
         address_len: 0,
     }
 }

@@ -1,4 +1,3 @@
 pub mod MessageLaws
 pub mod DeliveryLaws
 pub mod Cut
-pub mod Examples

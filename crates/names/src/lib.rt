@@ -14,7 +14,7 @@ ghost use Rattle.names.specs.Scan as scans;
 pub struct Listed {
     pub number: u8,
     pub count: usize,
-    pub places: [u8; 32],
+    pub places: [u8; machine::SENSORS],
 }
 
 // No places: the start of a list, or a list that is declined.
@@ -24,7 +24,7 @@ fn no_places(number: u8) -> Listed
     Listed {
         number: number,
         count: 0,
-        places: [0; 32],
+        places: [0; machine::SENSORS],
     }
 }
 
@@ -32,7 +32,11 @@ fn no_places(number: u8) -> Listed
 fn sensors_in(count: u8) -> usize
     ensures { λ r. ⌜ r ≡ min count 32 ⌝ }
 {
-    if count < 32 { count as usize } else { 32 }
+    if count < machine::MOST_SENSORS {
+        count as usize
+    } else {
+        machine::SENSORS
+    }
 }
 
 // Whether a sensor has that name.
@@ -117,7 +121,7 @@ pub fn every_place(count: u8) -> Listed
     ensures { λ r. ⌜ r ≡ scans.listing 0 (tabulate (λ j. j) (min count 32)) ⌝ }
 {
     let most = sensors_in(count);
-    let mut places: [u8; 32] = [0; 32];
+    let mut places: [u8; machine::SENSORS] = [0; machine::SENSORS];
     let mut j: usize = 0;
     while j < most {
         places[j] = j as u8;

@@ -13,24 +13,24 @@ const LONGEST: usize = 20;
 const THOUSAND: u64 = 1000;
 
 // The parts of one that a float counts.
-const BINARY_THOUSAND: u64 = 1024;
+const BINARY_THOUSAND: u64 = output::GRID;
 
 // Those that a difference counts.
-const MILLION: u64 = 1000000;
+const MILLION: u64 = output::MILLIONTHS;
 
 const LAST_BOOLEAN: u64 = 1;
 
-const LAST_TIME: u64 = 9999999999999;
+pub const LAST_TIME: u64 = 9999999999999;
 
 // What integers count from, and how many there are.
-const INTEGER_BIAS: u64 = 2147483648;
+const INTEGER_BIAS: u64 = output::INTEGER_ZERO;
 
-const INTEGERS: u64 = 2 * INTEGER_BIAS;
+pub const INTEGERS: u64 = 2 * INTEGER_BIAS;
 
 // What floats count from, and the last one.
-const FLOAT_BIAS: u64 = 1073741824;
+const FLOAT_BIAS: u64 = output::FLOAT_ZERO;
 
-const LAST_FLOAT: u64 = 2 * FLOAT_BIAS;
+pub const LAST_FLOAT: u64 = 2 * FLOAT_BIAS;
 
 const LAST_DIFFERENCE: u64 = 2097152000000;
 

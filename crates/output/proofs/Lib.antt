@@ -6,5 +6,4 @@ pub mod RunLaws
 pub mod LengthLaws
 pub mod ReadLaws
 pub mod ReadBack
-pub mod Examples
 pub mod TableLaws

@@ -6,6 +6,15 @@ ghost use Prim.Native.Nat.{_+_, _/_, _%_, _<_, _≤_};
 ghost use Rattle.output.specs.Output.{output, Wrote};
 ghost use Rattle.output.specs.Number.{digit, decimal, time, fractionIn, fixed, integer, float, difference, wholeDifference};
 
+// The stored number of the integer 0, which counts from -2^31.
+pub const INTEGER_ZERO: u64 = 2147483648;
+// The stored number of the float 0, which counts 1024ths from -2^30.
+pub const FLOAT_ZERO: u64 = 1073741824;
+// The parts of a float's unit.
+pub const GRID: u64 = 1024;
+// The parts of a difference's unit.
+pub const MILLIONTHS: u64 = 1000000;
+
 // One byte, where there is room.
 pub fn put_byte(out: &mut [u8], at: usize, b: u8) -> usize
     ensures { λ r. ⌜ Wrote (output (now (out .entry)) at) (b ∷ []) (output (now (out .exit)) r) ⌝ }
@@ -91,34 +100,34 @@ fn put_fixed(out: &mut [u8], at: usize, m: u64, base: u64, places: u64) -> usize
 pub fn put_integer(out: &mut [u8], at: usize, v: u64) -> usize
     ensures { λ r. ⌜ Wrote (output (now (out .entry)) at) (integer v) (output (now (out .exit)) r) ⌝ }
 {
-    if v < 2147483648 {
+    if v < INTEGER_ZERO {
         let p = put_byte(out, at, b'-');
-        return put_decimal(out, p, 2147483648 - v);
+        return put_decimal(out, p, INTEGER_ZERO - v);
     }
-    put_decimal(out, at, v - 2147483648)
+    put_decimal(out, at, v - INTEGER_ZERO)
 }
 
 // A float: v counts 1024ths from -2^30. Exact, without trailing zeros, one fraction digit at least.
 pub fn put_float(out: &mut [u8], at: usize, v: u64) -> usize
     ensures { λ r. ⌜ Wrote (output (now (out .entry)) at) (float v) (output (now (out .exit)) r) ⌝ }
 {
-    if v < 1073741824 {
+    if v < FLOAT_ZERO {
         let p = put_byte(out, at, b'-');
-        return put_fixed(out, p, 1073741824 - v, 1024, 10);
+        return put_fixed(out, p, FLOAT_ZERO - v, GRID, 10);
     }
-    put_fixed(out, at, v - 1073741824, 1024, 10)
+    put_fixed(out, at, v - FLOAT_ZERO, GRID, 10)
 }
 
 // A difference of d millionths, written like a float.
 pub fn put_difference(out: &mut [u8], at: usize, d: u64) -> usize
     ensures { λ r. ⌜ Wrote (output (now (out .entry)) at) (difference d) (output (now (out .exit)) r) ⌝ }
 {
-    put_fixed(out, at, d, 1000000, 6)
+    put_fixed(out, at, d, MILLIONTHS, 6)
 }
 
 // A difference of d millionths, written as an integer: its whole part.
 pub fn put_whole_difference(out: &mut [u8], at: usize, d: u64) -> usize
     ensures { λ r. ⌜ Wrote (output (now (out .entry)) at) (wholeDifference d) (output (now (out .exit)) r) ⌝ }
 {
-    put_decimal(out, at, d / 1000000)
+    put_decimal(out, at, d / MILLIONTHS)
 }

@@ -184,13 +184,13 @@ fn tell_client(out: &mut [u8], told: Told, client: u8, id: u64, k: Client) -> To
 }
 
 // The addresses of the connected clients, from the start of out.
-fn tell_clients(out: &mut [u8], client: u8, id: u64, clients: [Client; 8]) -> Told
+fn tell_clients(out: &mut [u8], client: u8, id: u64, clients: [Client; machine::CLIENTS]) -> Told
     ensures { λ r. ⌜ Sent (output (now (out .entry)) 0) (messages.allTo client (map (messages.clientInform id) (addressesBelow clients 8))) (output (now (out .exit)) (r .at)) ⌝ }
     ensures { λ r. ⌜ r .count ≡ length (addressesBelow clients 8) ⌝ }
 {
     let mut told = Told { at: 0, count: 0 };
     let mut c: usize = 0;
-    while c < 8 {
+    while c < machine::CLIENTS {
         let k = clients[c];
         told = tell_client(out, told, client, id, k);
         c += 1;
@@ -199,7 +199,13 @@ fn tell_clients(out: &mut [u8], client: u8, id: u64, clients: [Client; 8]) -> To
 }
 
 // `client-list`: the addresses of the connected clients.
-pub fn client_list(out: &mut [u8], client: u8, name: &[u8], id: u64, clients: [Client; 8]) -> usize
+pub fn client_list(
+    out: &mut [u8],
+    client: u8,
+    name: &[u8],
+    id: u64,
+    clients: [Client; machine::CLIENTS],
+) -> usize
     ensures { λ r. ⌜ Sent (output (now (out .entry)) 0) (messages.countedAnswer client (asking (now (name .entry)) id) (map (messages.clientInform id) (addressesBelow clients 8))) (output (now (out .exit)) r) ⌝ }
 {
     let told = tell_clients(out, client, id, clients);
@@ -257,6 +263,7 @@ fn put_arg_type(out: &mut [u8], at: usize, kind: u8) -> usize
         2 => message::put_arg(out, at, b"float"),
         3 => message::put_arg(out, at, b"boolean"),
         4 => message::put_arg(out, at, b"discrete"),
+        5 => message::put_arg(out, at, b"timestamp"),
         _ => message::put_arg(out, at, b"timestamp"),
     }
 }
@@ -304,7 +311,7 @@ fn put_args_limits(out: &mut [u8], at: usize, sensor: Sensor) -> usize
 fn put_args_of_type(out: &mut [u8], at: usize, sensor: Sensor) -> usize
     ensures { λ r. ⌜ Wrote (output (now (out .entry)) at) (argsText (messages.typeArgs sensor) []) (output (now (out .exit)) r) ⌝ }
 {
-    if sensor.kind == 4 {
+    if value::is_discrete(sensor.kind) {
         return put_args_options(out, at, sensor);
     }
     put_args_limits(out, at, sensor)

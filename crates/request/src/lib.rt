@@ -55,7 +55,7 @@ fn help_row(line: &[u8], head: Header) -> u8
     if head.count == 0 {
         return 0;
     }
-    let mut text: [u8; 2048] = [0; 2048];
+    let mut text: [u8; line::LONGEST] = [0; line::LONGEST];
     let n = argument(line, 0, &mut text);
     let Found::Is(_) = replies::request_named(&text[..n]) else {
         return 23;
@@ -71,7 +71,7 @@ fn level_asked(line: &[u8], head: Header, level: u8) -> u8
     if head.count == 0 {
         return level;
     }
-    let mut text: [u8; 2048] = [0; 2048];
+    let mut text: [u8; line::LONGEST] = [0; line::LONGEST];
     let n = argument(line, 0, &mut text);
     informs::level_named(&text[..n])
 }
@@ -81,7 +81,7 @@ fn sensors_listed(sheet: Sheet, line: &[u8], head: Header) -> Listed
     requires { ⌜ IsRead (now line) head × (sheet .count ≤ 32) ⌝ }
     ensures { λ r. ⌜ r ≡ scans.scanned sheet (requests.listed sheet (messageOf (now (line .entry)))) ⌝ }
 {
-    let mut text: [u8; 2048] = [0; 2048];
+    let mut text: [u8; line::LONGEST] = [0; line::LONGEST];
     let n = argument(line, 0, &mut text);
     names::scan(sheet, &text[..n])
 }
@@ -102,10 +102,10 @@ fn setting_asked(sheet: Sheet, places: &[u8], line: &[u8], head: Header) -> Sett
     requires { ⌜ IsRead (now line) head ⌝ }
     ensures { λ r. ⌜ r ≡ settings.settingOf sheet (now (places .entry)) (requests.kindAsked (messageOf (now (line .entry)))) (length (messageOf (now (line .entry)) .args)) (drop 2 (messageOf (now (line .entry)) .args)) ⌝ }
 {
-    let mut word: [u8; 2048] = [0; 2048];
-    let mut first: [u8; 2048] = [0; 2048];
-    let mut second: [u8; 2048] = [0; 2048];
-    let mut third: [u8; 2048] = [0; 2048];
+    let mut word: [u8; line::LONGEST] = [0; line::LONGEST];
+    let mut first: [u8; line::LONGEST] = [0; line::LONGEST];
+    let mut second: [u8; line::LONGEST] = [0; line::LONGEST];
+    let mut third: [u8; line::LONGEST] = [0; line::LONGEST];
     let w = argument(line, 1, &mut word);
     let a = argument(line, 2, &mut first);
     let b = argument(line, 3, &mut second);
@@ -236,11 +236,11 @@ fn end_all(
     let clients = state.clients;
     let name = line::name(line, head.name);
     let p = message::deliver_one(out, 0, client, b'!', name, head.id, b"ok");
-    let written = informs::inform_others(out, p, clients, 8, b"disconnect", why);
+    let written = informs::inform_others(out, p, clients, machine::CLIENTS, b"disconnect", why);
     state.halted = halted;
     state.level = level;
-    state.clients = [machine::blank_client(); 8];
-    state.subscriptions = [machine::no_subscription(); 256];
+    state.clients = [machine::blank_client(); machine::CLIENTS];
+    state.subscriptions = [machine::no_subscription(); machine::PAIRS];
     answered(state, written)
 }
 
@@ -259,7 +259,7 @@ fn help(state: State, client: u8, line: &[u8], head: Header, out: &mut [u8]) -> 
     requires { ⌜ IsRead (now line) head ⌝ }
     ensures { λ r. ⌜ effects.Gives (effects.requestEffect state client Request.Help (now (line .entry))) (now (out .entry)) r (now (out .exit)) ⌝ }
 {
-    let mut text: [u8; 2048] = [0; 2048];
+    let mut text: [u8; line::LONGEST] = [0; line::LONGEST];
     let n = argument(line, 0, &mut text);
     let name = line::name(line, head.name);
     let named = head.count != 0;
@@ -334,7 +334,7 @@ fn query(
 {
     let sheet = state.sheet;
     let sensor = sheet.sensors[place as usize];
-    let pair = state.subscriptions[client as usize * 32 + place as usize];
+    let pair = state.subscriptions[client as usize * machine::SENSORS + place as usize];
     let strategy = pair.strategy;
     let written = replies::deliver_sampling(out, 0, client, name, id, names, sensor, strategy);
     answered(state, written)
@@ -385,7 +385,7 @@ fn set_all(mut s: State, client: u8, places: &[u8], strategy: Strategy) -> State
     let mut k = 0;
     while k < places.len() {
         let j = places[k] as usize;
-        let p = client as usize * 32 + j;
+        let p = client as usize * machine::SENSORS + j;
         let stored = s.readings[j];
         let present = stored.sample;
         let pair = s.subscriptions[p];
@@ -424,7 +424,7 @@ fn sensor_sampling(state: State, client: u8, line: &[u8], head: Header, out: &mu
     let sheet = state.sheet;
     let name = line::name(line, head.name);
     let id = head.id;
-    let mut text: [u8; 2048] = [0; 2048];
+    let mut text: [u8; line::LONGEST] = [0; line::LONGEST];
     let len = argument(line, 0, &mut text);
     let names = &text[..len];
     let list = names::scan(sheet, names);

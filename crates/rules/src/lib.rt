@@ -52,7 +52,7 @@ pub fn text_fits(bytes: &[u8], least: usize, most: usize, charset: Charset) -> b
 }
 
 // The numbers from 0 to 63. A text is passed over by bytes beside them, so that the compiler can take many at a time.
-const PLACES: [u8; 64] = [
+const PLACES: [u8; machine::DESCRIPTION] = [
     0,
     1,
     2,
@@ -148,7 +148,7 @@ pub fn client_ok(client: Client) -> bool
             &places,
             client.address_len,
             1,
-            48,
+            machine::LONGEST_ADDRESS,
             Charset::Graphic,
         );
     }
@@ -174,10 +174,11 @@ fn alike_texts(a_len: u8, a: &[u8], b_len: u8, b: &[u8]) -> bool
 fn limit_ok(kind: u8, n: u64) -> bool
     ensures { λ r. ⌜ r ≡ sheets.limitOk kind n ⌝ }
 {
-    if kind == 1 {
-        return n < 4294967296;
+    match kind {
+        1 => n < value::INTEGERS,
+        2 => n <= value::MOST_FLOAT,
+        _ => n <= value::MOST_FLOAT,
     }
-    n <= 2147483648
 }
 
 fn limits_none(l: Limits) -> bool
@@ -219,6 +220,9 @@ fn limits_ok(kind: u8, l: Limits) -> bool
     none | (value::is_measured(kind) & (two | four))
 }
 
+// The bytes: a number of four of them counts by 256.
+const BYTES: u64 = 256;
+
 // A byte as a number that can be added up.
 fn wide(b: u8) -> u64
     ensures { λ r. ⌜ (r ≡ b) × (r < 256) ⌝ }
@@ -235,7 +239,7 @@ fn quarter(text: &[u8], at: usize) -> u64
     let b = wide(text[at + 1]);
     let c = wide(text[at + 2]);
     let d = wide(text[at + 3]);
-    a + 256 * (b + 256 * (c + 256 * d))
+    a + BYTES * (b + BYTES * (c + BYTES * d))
 }
 
 // A place that holds no option.
@@ -250,12 +254,12 @@ fn choice_none(o: Choice) -> bool
     (o.len == 0) & ((a == 0) & ((b == 0) & ((c == 0) & (d == 0))))
 }
 
-fn choices_none(options: [Choice; 8]) -> bool
+fn choices_none(options: [Choice; machine::OPTIONS]) -> bool
     ensures { λ r. ⌜ r ≡ allBelow (λ k. sheets.choiceNone (getD options k sheets.noChoice)) 8 ⌝ }
 {
     let mut ok = true;
     let mut k = 0;
-    while k < 8 {
+    while k < machine::OPTIONS {
         let o = options[k];
         ok = ok & choice_none(o);
         k += 1;
@@ -270,24 +274,34 @@ fn choice_ok(places: &[u8], count: u8, k: usize, o: Choice) -> bool
 {
     let text = o.text;
     if k < count as usize {
-        return text_ok(&text, places, o.len, 1, 16, Charset::Name);
+        return text_ok(
+            &text,
+            places,
+            o.len,
+            1,
+            machine::LONGEST_OPTION,
+            Charset::Name,
+        );
     }
     choice_none(o)
 }
 
-fn choices_ok(places: &[u8], count: u8, options: [Choice; 8]) -> bool
+fn choices_ok(places: &[u8], count: u8, options: [Choice; machine::OPTIONS]) -> bool
     requires { ⌜ now places ≡ upTo 64 ⌝ }
     ensures { λ r. ⌜ r ≡ allBelow (λ k. sheets.choiceOk count k (getD options k sheets.noChoice)) 8 ⌝ }
 {
     let mut ok = true;
     let mut k = 0;
-    while k < 8 {
+    while k < machine::OPTIONS {
         let o = options[k];
         ok = ok & choice_ok(places, count, k, o);
         k += 1;
     }
     ok
 }
+
+// Keys are below.
+const KEYS: u64 = 4294967296;
 
 // A key of sixteen bytes: a number by which texts are told apart. Texts of different keys are different.
 fn half_key(text: &[u8], at: usize) -> u64
@@ -301,18 +315,18 @@ fn half_key(text: &[u8], at: usize) -> u64
     a + 3 * b + (5 * c + 7 * d)
 }
 
-fn choice_key(text: [u8; 16]) -> u32
+fn choice_key(text: [u8; machine::OPTION]) -> u32
     ensures { λ r. ⌜ r ≡ key.choiceKey text ⌝ }
 {
-    (half_key(&text, 0) % 4294967296) as u32
+    (half_key(&text, 0) % KEYS) as u32
 }
 
-fn name_key(name: [u8; 32]) -> u32
+fn name_key(name: [u8; machine::NAME]) -> u32
     ensures { λ r. ⌜ r ≡ key.nameKey name ⌝ }
 {
     let first = half_key(&name, 0);
     let second = half_key(&name, 16);
-    ((first + 11 * second) % 4294967296) as u32
+    ((first + 11 * second) % KEYS) as u32
 }
 
 fn one_more(n: u32, counts: bool) -> u32
@@ -323,7 +337,7 @@ fn one_more(n: u32, counts: bool) -> u32
 }
 
 // How often a key stands among the first `count`.
-fn times(keys: [u32; 32], count: usize, own: u32) -> u32
+fn times(keys: [u32; machine::SENSORS], count: usize, own: u32) -> u32
     requires { ⌜ count ≤ 32 ⌝ }
     ensures { λ r. ⌜ r ≡ key.howMany (λ i. eqb (getD keys i 0) own) count ⌝ }
 {
@@ -337,7 +351,7 @@ fn times(keys: [u32; 32], count: usize, own: u32) -> u32
 }
 
 // Whether each of the first `count` keys stands there once.
-fn keys_apart(keys: [u32; 32], count: usize) -> bool
+fn keys_apart(keys: [u32; machine::SENSORS], count: usize) -> bool
     requires { ⌜ count ≤ 32 ⌝ }
     ensures { λ r. ⌜ r ≡ key.keysApart keys count ⌝ }
 {
@@ -351,12 +365,12 @@ fn keys_apart(keys: [u32; 32], count: usize) -> bool
 }
 
 // The keys of the options; 0 behind them.
-fn choice_keys(options: [Choice; 8]) -> [u32; 32]
+fn choice_keys(options: [Choice; machine::OPTIONS]) -> [u32; machine::SENSORS]
     ensures { λ r. ⌜ r ≡ key.choiceKeys options ⌝ }
 {
-    let mut keys: [u32; 32] = [0; 32];
+    let mut keys: [u32; machine::SENSORS] = [0; machine::SENSORS];
     let mut k: usize = 0;
-    while k < 8 {
+    while k < machine::OPTIONS {
         let o = options[k];
         let text = o.text;
         keys[k] = choice_key(text);
@@ -365,16 +379,19 @@ fn choice_keys(options: [Choice; 8]) -> [u32; 32]
     keys
 }
 
+// Every option beside every option.
+const OPTION_PAIRS: usize = machine::OPTIONS * machine::OPTIONS;
+
 // Options compared with each other, whole arrays.
-fn choices_compared(count: u8, options: [Choice; 8]) -> bool
+fn choices_compared(count: u8, options: [Choice; machine::OPTIONS]) -> bool
     ensures { λ r. ⌜ r ≡ choicesApart count options ⌝ }
 {
     let n = count as usize;
     let mut ok = true;
     let mut q: usize = 0;
-    while q < 64 {
-        let i = q % 8;
-        let j = q / 8;
+    while q < OPTION_PAIRS {
+        let i = q % machine::OPTIONS;
+        let j = q / machine::OPTIONS;
         let one = options[i];
         let other = options[j];
         let a = one.text;
@@ -387,7 +404,7 @@ fn choices_compared(count: u8, options: [Choice; 8]) -> bool
 }
 
 // Whether no two options are alike: by their keys, and compared whole where two keys are the same.
-fn choices_apart(count: u8, options: [Choice; 8]) -> bool
+fn choices_apart(count: u8, options: [Choice; machine::OPTIONS]) -> bool
     requires { ⌜ count ≤ 8 ⌝ }
     ensures { λ r. ⌜ r ≡ choicesApart count options ⌝ }
 {
@@ -404,15 +421,16 @@ fn options_ok(places: &[u8], sensor: Sensor) -> bool
     let kind = sensor.kind;
     let count = sensor.option_count;
     let options = sensor.options;
+    let discrete = value::is_discrete(kind);
     if count == 0 {
-        return (kind != 4) & choices_none(options);
+        return !discrete & choices_none(options);
     }
-    if 8 < count {
+    if machine::MOST_OPTIONS < count {
         return false;
     }
     let each = choices_ok(places, count, options);
     let apart = choices_apart(count, options);
-    (kind == 4) & (each & apart)
+    discrete & (each & apart)
 }
 
 // A bound for what is there; else 0.
@@ -447,7 +465,7 @@ fn sensor_ok_at(places: &[u8], there: bool, sensor: Sensor) -> bool
         places,
         sensor.name_len,
         one,
-        bound(there, 32),
+        bound(there, machine::LONGEST_NAME),
         Charset::Name,
     );
     let described = text_ok(
@@ -455,7 +473,7 @@ fn sensor_ok_at(places: &[u8], there: bool, sensor: Sensor) -> bool
         places,
         sensor.description_len,
         0,
-        bound(there, 64),
+        bound(there, machine::LONGEST_DESCRIPTION),
         Charset::Printable,
     );
     let measured = text_ok(
@@ -463,7 +481,7 @@ fn sensor_ok_at(places: &[u8], there: bool, sensor: Sensor) -> bool
         places,
         sensor.units_len,
         0,
-        bound(there, 8),
+        bound(there, machine::LONGEST_UNITS),
         Charset::Printable,
     );
     let typed = (one <= kind) & (kind <= bound(there, 5));
@@ -472,6 +490,9 @@ fn sensor_ok_at(places: &[u8], there: bool, sensor: Sensor) -> bool
     named & (described & (measured & (typed & (limits & options))))
 }
 
+// Every sensor beside every sensor.
+const SENSOR_PAIRS: usize = machine::SENSORS * machine::SENSORS;
+
 // Names compared with each other, whole arrays.
 fn names_compared(sheet: Sheet) -> bool
     ensures { λ r. ⌜ r ≡ namesApart sheet ⌝ }
@@ -479,9 +500,9 @@ fn names_compared(sheet: Sheet) -> bool
     let count = sheet.count as usize;
     let mut ok = true;
     let mut q: usize = 0;
-    while q < 1024 {
-        let i = q % 32;
-        let j = q / 32;
+    while q < SENSOR_PAIRS {
+        let i = q % machine::SENSORS;
+        let j = q / machine::SENSORS;
         let one = sheet.sensors[i];
         let other = sheet.sensors[j];
         let a = one.name;
@@ -497,14 +518,18 @@ fn names_compared(sheet: Sheet) -> bool
 fn held(count: u8) -> usize
     ensures { λ r. ⌜ r ≡ min count 32 ⌝ }
 {
-    if count < 32 { count as usize } else { 32 }
+    if count < machine::MOST_SENSORS {
+        count as usize
+    } else {
+        machine::SENSORS
+    }
 }
 
 // What one pass over the sensors of a sheet finds: whether they keep their rules, the type of each, and how many options it has.
 pub struct Sensors {
     pub ok: bool,
-    pub kinds: [u8; 32],
-    pub options: [u8; 32],
+    pub kinds: [u8; machine::SENSORS],
+    pub options: [u8; machine::SENSORS],
 }
 
 // The sensors of a sheet: their number, each of them, and that their names are distinct, by their keys, and compared whole where two keys
@@ -515,11 +540,11 @@ pub fn sensors_found(sheet: Sheet) -> Sensors
     let count = sheet.count as usize;
     let places = PLACES;
     let mut ok = true;
-    let mut kinds: [u8; 32] = [0; 32];
-    let mut options: [u8; 32] = [0; 32];
-    let mut keys: [u32; 32] = [0; 32];
+    let mut kinds: [u8; machine::SENSORS] = [0; machine::SENSORS];
+    let mut options: [u8; machine::SENSORS] = [0; machine::SENSORS];
+    let mut keys: [u32; machine::SENSORS] = [0; machine::SENSORS];
     let mut j: usize = 0;
-    while j < 32 {
+    while j < machine::SENSORS {
         let sensor = sheet.sensors[j];
         let name = sensor.name;
         ok = ok & sensor_ok_at(&places, j < count, sensor);
@@ -532,7 +557,7 @@ pub fn sensors_found(sheet: Sheet) -> Sensors
         ok = ok & names_compared(sheet);
     }
     Sensors {
-        ok: (count <= 32) & ok,
+        ok: (count <= machine::SENSORS) & ok,
         kinds: kinds,
         options: options,
     }
@@ -545,8 +570,22 @@ pub fn titles_ok(sheet: Sheet) -> bool
     let places = PLACES;
     let api = sheet.api;
     let build = sheet.build;
-    let first = text_ok(&api, &places, sheet.api_len, 1, 32, Charset::Graphic);
-    let second = text_ok(&build, &places, sheet.build_len, 1, 32, Charset::Graphic);
+    let first = text_ok(
+        &api,
+        &places,
+        sheet.api_len,
+        1,
+        machine::LONGEST_TITLE,
+        Charset::Graphic,
+    );
+    let second = text_ok(
+        &build,
+        &places,
+        sheet.build_len,
+        1,
+        machine::LONGEST_TITLE,
+        Charset::Graphic,
+    );
     first & second
 }
 

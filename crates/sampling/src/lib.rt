@@ -45,17 +45,41 @@ fn distance(a: u64, b: u64) -> u64
     if a <= b { b - a } else { a - b }
 }
 
+// 1024 and 1,000,000 in lowest terms: the one.
+const GRID: u64 = 16;
+// The other.
+const PARTS: u64 = 15625;
+
 // Whether so many units are more than a difference in millionths. The quotients stand for products that could wrap; a float's unit is
 // 1/1024, and 1024 millionths are to 1,000,000 as 16 to 15,625.
 fn is_beyond(sensor: Sensor, difference: u64, units: u64) -> bool
     ensures { λ r. ⌜ r ≡ reports.beyond sensor difference units ⌝ }
 {
-    if sensor.kind == 2 {
-        let whole = 16 * (difference / 15625);
-        let rest = 16 * (difference % 15625) / 15625;
-        return whole + rest < units;
+    let kind = sensor.kind;
+    match kind {
+        1 => difference / output::MILLIONTHS < units,
+        2 => {
+            let whole = GRID * (difference / PARTS);
+            let rest = GRID * (difference % PARTS) / PARTS;
+            whole + rest < units
+        }
+        _ => difference / output::MILLIONTHS < units,
     }
-    difference / 1000000 < units
+}
+
+// Whether a sample is valid.
+fn is_valid(x: Sample) -> bool
+    ensures { λ r. ⌜ r ≡ reports.isValid x ⌝ }
+{
+    let kind = x.kind;
+    match kind {
+        0 => false,
+        1 => true,
+        2 => false,
+        3 => false,
+        4 => false,
+        _ => false,
+    }
 }
 
 // Whether the status changed since the last report, or the value by more than the difference.
@@ -64,7 +88,9 @@ fn has_moved(sensor: Sensor, difference: u64, last: Sample, present: Sample) -> 
 {
     let status = status_changed(sensor, last, present);
     let beyond = is_beyond(sensor, difference, distance(last.number, present.number));
-    status | ((last.kind == 1) & ((present.kind == 1) & beyond))
+    let was = is_valid(last);
+    let is = is_valid(present);
+    status | (was & (is & beyond))
 }
 
 // The time since the last report.
@@ -105,16 +131,19 @@ pub fn put_arg_name(out: &mut [u8], at: usize, sensor: Sensor) -> usize
     message::put_arg_prefix(out, at, &name, sensor.name_len as usize)
 }
 
+// The most options of a sensor, as the number of a place.
+const OPTIONS: u64 = machine::OPTIONS as u64;
+
 // The option at a place of a sensor's list; past the list, an empty one.
 pub fn option_at(sensor: Sensor, place: u64) -> Choice
     ensures { λ r. ⌜ take (r .len) (r .text) ≡ optionOf sensor place ⌝ }
 {
-    if place < 8 {
+    if place < OPTIONS {
         let options = sensor.options;
         return options[place as usize];
     }
     Choice {
-        text: [0; 16],
+        text: [0; machine::OPTION],
         len: 0,
     }
 }
@@ -227,11 +256,17 @@ fn first_place(number: u8, cause: Cause) -> usize
     ensures { λ r. ⌜ r ≡ visits.firstPlace number cause ⌝ }
 {
     if number != 0 {
-        return 256;
+        return machine::PAIRS;
     }
     match cause {
         Cause::Tick => 0,
-        Cause::Reading(j) => { if j < 32 { j } else { 256 } }
+        Cause::Reading(j) => {
+            if j < machine::SENSORS {
+                j
+            } else {
+                machine::PAIRS
+            }
+        }
     }
 }
 
@@ -242,8 +277,14 @@ fn next_place(cause: Cause, there: bool, p: usize) -> usize
     ensures { λ r. ⌜ r ≡ visits.nextPlace cause there p ⌝ }
 {
     match cause {
-        Cause::Tick => { if there { p + 1 } else { p - p % 32 + 32 } }
-        Cause::Reading(_) => p + 32,
+        Cause::Tick => {
+            if there {
+                p + 1
+            } else {
+                p - p % machine::SENSORS + machine::SENSORS
+            }
+        }
+        Cause::Reading(_) => p + machine::SENSORS,
     }
 }
 
@@ -281,7 +322,7 @@ pub fn visit(
     s: State,
     cause: Cause,
     clock: u64,
-    readings: [Stored; 32],
+    readings: [Stored; machine::SENSORS],
     out: &mut [u8],
 ) -> Answer
     ensures { λ r. ⌜ r .number ≡ number ⌝ }
@@ -295,9 +336,9 @@ pub fn visit(
     let reading = by_reading(cause);
     let mut at: usize = 0;
     let mut p = first_place(number, cause);
-    while p < 256 {
-        let c = p / 32;
-        let j = p % 32;
+    while p < machine::PAIRS {
+        let c = p / machine::SENSORS;
+        let j = p % machine::SENSORS;
         let client = clients[c];
         let pair = pairs[p];
         let strategy = pair.strategy;

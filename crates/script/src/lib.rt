@@ -21,6 +21,10 @@ ghost use Rattle.input.specs.Words.{wordAt, integerOf};
 ghost use Rattle.script.specs.Script as scripts;
 ghost use Rattle.script.specs.Replay as replays;
 
+// The longest line of a script, and how many bytes its words can stand for.
+const LONGEST_LINE: usize = 65536;
+const MOST_BYTES: usize = LONGEST_LINE / 2;
+
 // A reading that a line gives, or that its words are none.
 pub enum Given {
     A(Reading),
@@ -272,7 +276,7 @@ fn open_sheet(line: &[u8]) -> Answer
     requires { ⌜ length (now line) ≤ 65536 ⌝ }
     ensures { λ r. ⌜ r ≡ replays.quiet (opened (replays.bytesAt 1 (now (line .entry))) .number) (opened (replays.bytesAt 1 (now (line .entry))) .state) ⌝ }
 {
-    let mut sheet = [0u8; 32768];
+    let mut sheet = [0u8; MOST_BYTES];
     let n = hex::put_bytes_of(&mut sheet, 0, input::word(line, 1));
     let opened = device::open(&sheet[..n]);
     declining::silent(opened.number, opened.state)
@@ -283,7 +287,7 @@ fn connect(state: State, line: &[u8], client: usize, out: &mut [u8]) -> Answer
     ensures { λ r. ⌜ r ≡ answerOf (step state (calls.callOf (calls.Connect client (replays.bytesAt 3 (now (line .entry)))) (now (out .entry)))) ⌝ }
     ensures { λ r. ⌜ now (out .exit) ≡ outputOf (step state (calls.callOf (calls.Connect client (replays.bytesAt 3 (now (line .entry)))) (now (out .entry)))) (now (out .entry)) ⌝ }
 {
-    let mut address = [0u8; 32768];
+    let mut address = [0u8; MOST_BYTES];
     let n = hex::put_bytes_of(&mut address, 0, input::word(line, 3));
     device::connect(state, client, &address[..n], out)
 }
@@ -293,9 +297,9 @@ fn log(state: State, line: &[u8], level: u8, out: &mut [u8]) -> Answer
     ensures { λ r. ⌜ r ≡ answerOf (step state (calls.callOf (calls.Log level (replays.bytesAt 3 (now (line .entry))) (replays.bytesAt 4 (now (line .entry)))) (now (out .entry)))) ⌝ }
     ensures { λ r. ⌜ now (out .exit) ≡ outputOf (step state (calls.callOf (calls.Log level (replays.bytesAt 3 (now (line .entry))) (replays.bytesAt 4 (now (line .entry)))) (now (out .entry)))) (now (out .entry)) ⌝ }
 {
-    let mut logger = [0u8; 32768];
+    let mut logger = [0u8; MOST_BYTES];
     let n = hex::put_bytes_of(&mut logger, 0, input::word(line, 3));
-    let mut message = [0u8; 32768];
+    let mut message = [0u8; MOST_BYTES];
     let m = hex::put_bytes_of(&mut message, 0, input::word(line, 4));
     device::log(state, level, &logger[..n], &message[..m], out)
 }
@@ -305,7 +309,7 @@ fn client_line(state: State, line: &[u8], client: usize, out: &mut [u8]) -> Answ
     ensures { λ r. ⌜ r ≡ answerOf (step state (calls.callOf (calls.Line client (replays.bytesAt 3 (now (line .entry)))) (now (out .entry)))) ⌝ }
     ensures { λ r. ⌜ now (out .exit) ≡ outputOf (step state (calls.callOf (calls.Line client (replays.bytesAt 3 (now (line .entry)))) (now (out .entry)))) (now (out .entry)) ⌝ }
 {
-    let mut bytes = [0u8; 32768];
+    let mut bytes = [0u8; MOST_BYTES];
     let n = hex::put_bytes_of(&mut bytes, 0, input::word(line, 3));
     device::line(state, client, &bytes[..n], out)
 }
@@ -334,7 +338,7 @@ pub fn perform(state: State, line: &[u8], out: &mut [u8]) -> Performed
     ensures { λ r. ⌜ r ≡ replays.performed state (now (line .entry)) (now (out .entry)) ⌝ }
     ensures { λ r. ⌜ now (out .exit) ≡ replays.outputAfter state (now (line .entry)) (now (out .entry)) ⌝ }
 {
-    if 65536 < line.len() {
+    if LONGEST_LINE < line.len() {
         return Performed {
             command: Command::Wrong,
             answer: declining::silent(0, state),

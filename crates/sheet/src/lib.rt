@@ -41,13 +41,13 @@ fn fresh_stored(there: bool, kind: u8) -> Stored
     no_stored()
 }
 
-fn fresh_readings(sheet: Sheet) -> [Stored; 32]
+fn fresh_readings(sheet: Sheet) -> [Stored; machine::SENSORS]
     ensures { λ r. ⌜ r ≡ states.freshReadings sheet ⌝ }
 {
     let count = sheet.count as usize;
-    let mut readings = [no_stored(); 32];
+    let mut readings = [no_stored(); machine::SENSORS];
     let mut j: usize = 0;
-    while j < 32 {
+    while j < machine::SENSORS {
         let sensor = sheet.sensors[j];
         readings[j] = fresh_stored(j < count, sensor.kind);
         j += 1;
@@ -60,8 +60,8 @@ fn fresh_state(sheet: Sheet) -> State
     ensures { λ r. ⌜ r ≡ states.fresh sheet ⌝ }
 {
     let readings = fresh_readings(sheet);
-    let clients = [machine::blank_client(); 8];
-    let subscriptions = [machine::no_subscription(); 256];
+    let clients = [machine::blank_client(); machine::CLIENTS];
+    let subscriptions = [machine::no_subscription(); machine::PAIRS];
     State {
         sheet: sheet,
         clock: 0,
@@ -78,9 +78,9 @@ fn blank_state() -> State
     ensures { λ r. ⌜ r ≡ states.blank ⌝ }
 {
     let sheet = layout::blank_sheet();
-    let readings = [no_stored(); 32];
-    let clients = [machine::blank_client(); 8];
-    let subscriptions = [machine::no_subscription(); 256];
+    let readings = [no_stored(); machine::SENSORS];
+    let clients = [machine::blank_client(); machine::CLIENTS];
+    let subscriptions = [machine::no_subscription(); machine::PAIRS];
     State {
         sheet: sheet,
         clock: 0,
@@ -128,11 +128,12 @@ fn number_fits(kind: u8, options: u8, n: u64) -> bool
     ensures { λ r. ⌜ r ≡ readings.numberFits kind options n ⌝ }
 {
     match kind {
-        1 => n < 4294967296,
-        2 => n <= 2147483648,
+        1 => n < value::INTEGERS,
+        2 => n <= value::MOST_FLOAT,
         3 => n <= 1,
         4 => n < options as u64,
-        _ => n <= 9999999999999,
+        5 => n <= value::LAST_TIME,
+        _ => n <= value::LAST_TIME,
     }
 }
 
@@ -140,10 +141,15 @@ fn number_fits(kind: u8, options: u8, n: u64) -> bool
 fn sample_ok(kind: u8, options: u8, x: Sample) -> bool
     ensures { λ r. ⌜ r ≡ readings.sampleFits kind options x ⌝ }
 {
-    if x.kind == 1 {
-        return number_fits(kind, options, x.number);
+    let own = x.kind;
+    match own {
+        0 => x.number == value::zero_of(kind),
+        1 => number_fits(kind, options, x.number),
+        2 => x.number == value::zero_of(kind),
+        3 => x.number == value::zero_of(kind),
+        4 => x.number == value::zero_of(kind),
+        _ => false,
     }
-    (x.kind <= 4) & (x.number == value::zero_of(kind))
 }
 
 fn sample_none(x: Sample) -> bool
@@ -162,7 +168,7 @@ fn stored_ok(there: bool, clock: u64, kind: u8, options: u8, r: Stored) -> bool
     sample_none(r.sample) & (r.time == 0)
 }
 
-fn readings_ok(count: u8, clock: u64, sensors: Sensors, stored: [Stored; 32]) -> bool
+fn readings_ok(count: u8, clock: u64, sensors: Sensors, stored: [Stored; machine::SENSORS]) -> bool
     ensures { λ r. ⌜ r ≡ allBelow (checks.storedFits count clock sensors stored) 32 ⌝ }
 {
     let n = count as usize;
@@ -170,7 +176,7 @@ fn readings_ok(count: u8, clock: u64, sensors: Sensors, stored: [Stored; 32]) ->
     let options = sensors.options;
     let mut ok = true;
     let mut j: usize = 0;
-    while j < 32 {
+    while j < machine::SENSORS {
         let held = stored[j];
         ok = ok & stored_ok(j < n, clock, kinds[j], options[j], held);
         j += 1;
@@ -178,12 +184,12 @@ fn readings_ok(count: u8, clock: u64, sensors: Sensors, stored: [Stored; 32]) ->
     ok
 }
 
-fn clients_ok(clients: [Client; 8]) -> bool
+fn clients_ok(clients: [Client; machine::CLIENTS]) -> bool
     ensures { λ r. ⌜ r ≡ allBelow (ranges.clientOkAt clients) 8 ⌝ }
 {
     let mut ok = true;
     let mut c: usize = 0;
-    while c < 8 {
+    while c < machine::CLIENTS {
         let client = clients[c];
         ok = ok & rules::client_ok(client);
         c += 1;
@@ -191,12 +197,12 @@ fn clients_ok(clients: [Client; 8]) -> bool
     ok
 }
 
-fn no_clients(clients: [Client; 8]) -> bool
+fn no_clients(clients: [Client; machine::CLIENTS]) -> bool
     ensures { λ r. ⌜ r ≡ ranges.noClients clients ⌝ }
 {
     let mut ok = true;
     let mut c: usize = 0;
-    while c < 8 {
+    while c < machine::CLIENTS {
         let client = clients[c];
         ok = ok & !client.connected;
         c += 1;
@@ -207,7 +213,7 @@ fn no_clients(clients: [Client; 8]) -> bool
 fn period_ok(p: u64) -> bool
     ensures { λ r. ⌜ r ≡ ranges.periodOk p ⌝ }
 {
-    (1 <= p) & (p <= 86400000)
+    (1 <= p) & (p <= value::LONGEST_PERIOD)
 }
 
 fn rates_ok(shortest: u64, longest: u64) -> bool
@@ -219,10 +225,11 @@ fn rates_ok(shortest: u64, longest: u64) -> bool
 fn difference_ok(kind: u8, d: u64) -> bool
     ensures { λ r. ⌜ r ≡ ranges.differenceOk kind d ⌝ }
 {
-    if kind == 1 {
-        return (d <= 4294967295000000) & (d % 1000000 == 0);
+    match kind {
+        1 => (d <= 4294967295000000) & (d % output::MILLIONTHS == 0),
+        2 => d <= value::MOST_FLOAT_DIFFERENCE,
+        _ => false,
     }
-    (kind == 2) & (d <= 2097152000000)
 }
 
 // A strategy that a sensor of a type can have.
@@ -258,8 +265,8 @@ fn pairs_ok(
     count: u8,
     clock: u64,
     sensors: Sensors,
-    clients: [Client; 8],
-    pairs: [Subscription; 256],
+    clients: [Client; machine::CLIENTS],
+    pairs: [Subscription; machine::PAIRS],
 ) -> bool
     ensures { λ r. ⌜ r ≡ allBelow (checks.pairFits count clock sensors clients pairs) 256 ⌝ }
 {
@@ -268,9 +275,9 @@ fn pairs_ok(
     let options = sensors.options;
     let mut ok = true;
     let mut p: usize = 0;
-    while p < 256 {
-        let c = p / 32;
-        let j = p % 32;
+    while p < machine::PAIRS {
+        let c = p / machine::SENSORS;
+        let j = p % machine::SENSORS;
         let client = clients[c];
         let pair = pairs[p];
         ok = ok
@@ -307,5 +314,5 @@ pub fn in_range(s: State) -> bool
     let pairs = pairs_ok(sheet.count, s.clock, sensors, connections, subscriptions);
     (titles | blank)
         & (sensors.ok
-            & ((s.clock <= 9999999999999) & ((s.level <= 7) & (readings & (clients & pairs)))))
+            & ((s.clock <= value::LAST_TIME) & ((s.level <= 7) & (readings & (clients & pairs)))))
 }

@@ -67,10 +67,12 @@ fn put_arg_word(out: &mut [u8], at: usize, kind: u8) -> usize
 fn put_arg_difference(out: &mut [u8], at: usize, sensor: Sensor, difference: u64) -> usize
     ensures { λ r. ⌜ Wrote (output (now (out .entry)) at) (arg (messages.differenceText sensor difference)) (output (now (out .exit)) r) ⌝ }
 {
-    if sensor.kind == 1 {
-        return message::put_arg_whole_difference(out, at, difference);
+    let kind = sensor.kind;
+    match kind {
+        1 => message::put_arg_whole_difference(out, at, difference),
+        2 => message::put_arg_difference(out, at, difference),
+        _ => message::put_arg_difference(out, at, difference),
     }
-    message::put_arg_difference(out, at, difference)
 }
 
 // Two periods.
@@ -151,8 +153,8 @@ fn is_unmeasured(sheet: Sheet, places: &[u8]) -> bool
     let mut k = 0;
     while k < places.len() {
         let j = places[k];
-        let sensor = sheet.sensors[(j % 32) as usize];
-        found = found | !value::is_measured(type_if(j < 32, sensor.kind));
+        let sensor = sheet.sensors[(j % machine::MOST_SENSORS) as usize];
+        found = found | !value::is_measured(type_if(j < machine::MOST_SENSORS, sensor.kind));
         k += 1;
     }
     found
@@ -162,10 +164,11 @@ fn is_unmeasured(sheet: Sheet, places: &[u8]) -> bool
 fn difference_for(kind: u8, text: &[u8]) -> Parameter
     ensures { λ r. ⌜ r ≡ cond (eqb kind 1) (integerDifferenceOf (now (text .entry))) (floatDifferenceOf (now (text .entry))) ⌝ }
 {
-    if kind == 1 {
-        return value::read_integer_difference(text);
+    match kind {
+        1 => value::read_integer_difference(text),
+        2 => value::read_float_difference(text),
+        _ => value::read_float_difference(text),
     }
-    value::read_float_difference(text)
 }
 
 // Whether a parameter cannot be read.
@@ -186,8 +189,9 @@ fn is_unsuited(sheet: Sheet, places: &[u8], text: &[u8]) -> bool
     let mut k = 0;
     while k < places.len() {
         let j = places[k];
-        let sensor = sheet.sensors[(j % 32) as usize];
-        found = found | is_bad(difference_for(type_if(j < 32, sensor.kind), text));
+        let sensor = sheet.sensors[(j % machine::MOST_SENSORS) as usize];
+        found = found
+            | is_bad(difference_for(type_if(j < machine::MOST_SENSORS, sensor.kind), text));
         k += 1;
     }
     found
@@ -201,8 +205,8 @@ fn first_type(sheet: Sheet, places: &[u8]) -> u8
     if 0 < places.len() {
         j = places[0];
     }
-    let sensor = sheet.sensors[(j % 32) as usize];
-    type_if(j < 32, sensor.kind)
+    let sensor = sheet.sensors[(j % machine::MOST_SENSORS) as usize];
+    type_if(j < machine::MOST_SENSORS, sensor.kind)
 }
 
 // A difference for the sensors at some places: it must suit each, and is that of the first.

@@ -91,7 +91,7 @@ fn reading_entry(line: &[u8]) -> Entry
 fn entry_of(line: &[u8]) -> Entry
     ensures { λ r. ⌜ r ≡ entries.entryOf (now (line .entry)) ⌝ }
 {
-    if 2048 < line.len() {
+    if line::LONGEST < line.len() {
         return Entry::Line;
     }
     if input::has_words(line, b"@", 1) {

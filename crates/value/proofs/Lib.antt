@@ -7,4 +7,3 @@ pub mod SampleLaws
 pub mod DigitLaws
 pub mod DecimalLaws
 pub mod ParameterLaws
-pub mod ParameterExamples

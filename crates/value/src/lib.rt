@@ -3,6 +3,7 @@
 ghost use mathlib.Core.Path.{_≡_};
 ghost use mathlib.Core.Bool.{cond};
 ghost use Prim.Native.Nat.{_*_, _^_, _<_, _≤_};
+ghost use lib.Dec.{eqb};
 ghost use lib.Ieee.{binary64, ofBits};
 ghost use lib.ListN.{length, take};
 ghost use Rattle.output.specs.Output.{output, Wrote};
@@ -14,6 +15,29 @@ ghost use Rattle.value.specs.Status.{rangeStatus, statusOf, statusText};
 ghost use Rattle.value.specs.Value.{valueText};
 ghost use Rattle.value.specs.Parameter.{whole, wholeOk, fractionOk, behindPoint, units, decimalOk, integerDifferenceOf, floatDifferenceOf, periodOf, shortestOf};
 
+// The stored number of the integer 0, as `output` has it, and signed.
+const INTEGER_ZERO: i64 = output::INTEGER_ZERO as i64;
+// The stored number of the float 0, in the width of a Fit.
+const FLOAT_ZERO: u32 = output::FLOAT_ZERO as u32;
+// The largest stored number of a float.
+pub const MOST_FLOAT: u64 = numbers::LAST_FLOAT;
+// Stored numbers of integers are below.
+pub const INTEGERS: u64 = numbers::INTEGERS;
+// Times are below, in milliseconds.
+const TIMES: u64 = 10000000000000;
+// The last time, in milliseconds.
+pub const LAST_TIME: u64 = numbers::LAST_TIME;
+// The longest period, in milliseconds.
+pub const LONGEST_PERIOD: u64 = 86400000;
+// The largest difference of floats, in millionths.
+pub const MOST_FLOAT_DIFFERENCE: u64 = 2097152000000;
+// Digits are read up to this number, above every number that a parameter may have before or behind its point.
+const MOST_DIGITS: u64 = 10000000000;
+// The sign bit of a double.
+const SIGN: u64 = 0x8000_0000_0000_0000;
+// The implicit bit above its fraction.
+const IMPLICIT: u64 = 0x10_0000_0000_0000;
+
 // A number of 1024ths plus 2^30, or nothing that fits.
 pub enum Fit {
     At(u32),
@@ -24,15 +48,15 @@ pub enum Fit {
 fn fit_size(negative: bool, n: u64) -> Fit
     ensures { λ r. ⌜ r ≡ within negative n ⌝ }
 {
-    if 1073741824 < n {
+    if output::FLOAT_ZERO < n {
         return Fit::Out;
     }
     // at most 2^30, so the cast loses nothing
     let size = n as u32;
     if negative {
-        return Fit::At(1073741824 - size);
+        return Fit::At(FLOAT_ZERO - size);
     }
-    Fit::At(1073741824 + size)
+    Fit::At(FLOAT_ZERO + size)
 }
 
 // digits / 2^shift 1024ths, if whole.
@@ -58,16 +82,16 @@ fn fit_whole(negative: bool, digits: u64, shift: u64) -> Fit
 fn fit_bits(bits: u64) -> Fit
     ensures { λ r. ⌜ r ≡ exact1024 (ofBits binary64 bits) ⌝ }
 {
-    let negative = 0x8000_0000_0000_0000 <= bits;
-    let field = bits % 0x8000_0000_0000_0000 / 0x10_0000_0000_0000;
-    let digits = bits % 0x10_0000_0000_0000;
+    let negative = SIGN <= bits;
+    let field = bits % SIGN / IMPLICIT;
+    let digits = bits % IMPLICIT;
     if field == 0 {
         return fit_whole(negative, digits, 1064);
     }
     if 1043 < field {
         return Fit::Out;
     }
-    fit_whole(negative, 0x10_0000_0000_0000 + digits, 1065 - field)
+    fit_whole(negative, IMPLICIT + digits, 1065 - field)
 }
 
 // The reading of a double: an exact multiple of 1/1024 within ±1,048,576.
@@ -85,7 +109,7 @@ pub fn exact_1024ths(x: f64) -> Fit
 pub fn biased_integer(x: i32) -> u64
     ensures { λ r. ⌜ r ≡ biasedInteger x ⌝ }
 {
-    (x as i64 + 2147483648) as u64
+    (x as i64 + INTEGER_ZERO) as u64
 }
 
 // Four bytes of a sheet, a signed big-endian number, plus 2^31: the sign bit turned over.
@@ -94,10 +118,10 @@ pub fn biased_word(a: u8, b: u8, c: u8, d: u8) -> u64
 {
     let high = (a as u64) * 16777216 + (b as u64) * 65536;
     let bits = high + (c as u64) * 256 + (d as u64);
-    if bits < 2147483648 {
-        return bits + 2147483648;
+    if bits < output::INTEGER_ZERO {
+        return bits + output::INTEGER_ZERO;
     }
-    bits - 2147483648
+    bits - output::INTEGER_ZERO
 }
 
 // Four bytes of a sheet, a signed big-endian number of 1024ths.
@@ -105,11 +129,11 @@ pub fn grid_word(a: u8, b: u8, c: u8, d: u8) -> Fit
     ensures { λ r. ⌜ r ≡ withinSigned (signed32 (word a b c d)) ⌝ }
 {
     let n = biased_word(a, b, c, d);
-    if n < 1073741824 {
+    if n < output::FLOAT_ZERO {
         return Fit::Out;
     }
-    let count = n - 1073741824;
-    if 2147483648 < count {
+    let count = n - output::FLOAT_ZERO;
+    if MOST_FLOAT < count {
         return Fit::Out;
     }
     Fit::At(count as u32)
@@ -174,6 +198,23 @@ pub fn is_measured(kind: u8) -> bool
     match kind {
         1 => true,
         2 => true,
+        3 => false,
+        4 => false,
+        5 => false,
+        _ => false,
+    }
+}
+
+// Whether a type has options: discrete.
+pub fn is_discrete(kind: u8) -> bool
+    ensures { λ r. ⌜ r ≡ eqb kind 4 ⌝ }
+{
+    match kind {
+        1 => false,
+        2 => false,
+        3 => false,
+        4 => true,
+        5 => false,
         _ => false,
     }
 }
@@ -183,8 +224,11 @@ pub fn zero_of(kind: u8) -> u64
     ensures { λ r. ⌜ r ≡ zeroOf kind ⌝ }
 {
     match kind {
-        1 => 2147483648,
-        2 => 1073741824,
+        1 => output::INTEGER_ZERO,
+        2 => output::FLOAT_ZERO,
+        3 => 0,
+        4 => 0,
+        5 => 0,
         _ => 0,
     }
 }
@@ -218,7 +262,7 @@ pub fn sample_of(kind: u8, options: u8, reading: Reading) -> Sampled
         Reading::Float(x) => only_for(kind, 2, float_sample(x)),
         Reading::Boolean(b) => only_for(kind, 3, sample_below(2, b as u64)),
         Reading::Option(i) => only_for(kind, 4, sample_below(options as u64, i as u64)),
-        Reading::Timestamp(m) => only_for(kind, 5, sample_below(10000000000000, m)),
+        Reading::Timestamp(m) => only_for(kind, 5, sample_below(TIMES, m)),
         Reading::Failure => Sampled::As(invalid_sample(kind, 2)),
         Reading::Unreachable => Sampled::As(invalid_sample(kind, 3)),
         Reading::Inactive => Sampled::As(invalid_sample(kind, 4)),
@@ -257,6 +301,7 @@ pub fn status_of(l: Limits, s: Sample) -> u8
         1 => range_status(l, s.number),
         2 => 4,
         3 => 5,
+        4 => 6,
         _ => 6,
     }
 }
@@ -272,6 +317,7 @@ pub fn put_arg_status(out: &mut [u8], at: usize, status: u8) -> usize
         3 => message::put_arg(out, at, b"error"),
         4 => message::put_arg(out, at, b"failure"),
         5 => message::put_arg(out, at, b"unreachable"),
+        6 => message::put_arg(out, at, b"inactive"),
         _ => message::put_arg(out, at, b"inactive"),
     }
 }
@@ -292,6 +338,7 @@ pub fn put_value(out: &mut [u8], at: usize, kind: u8, option: &[u8], len: usize,
         2 => output::put_float(out, at, n),
         3 => output::put_decimal(out, at, n),
         4 => put_prefix(out, at, option, len),
+        5 => output::put_time(out, at, n),
         _ => output::put_time(out, at, n),
     }
 }
@@ -312,6 +359,7 @@ pub fn put_arg_value(
         2 => message::put_arg_float(out, at, n),
         3 => message::put_arg_decimal(out, at, n),
         4 => message::put_arg_prefix(out, at, option, len),
+        5 => message::put_arg_time(out, at, n),
         _ => message::put_arg_time(out, at, n),
     }
 }
@@ -382,10 +430,10 @@ fn read_decimal(t: &[u8], places: usize, least: u64, most: u64) -> Parameter
     if places < fraction.len() {
         return Parameter::Bad;
     }
-    let high = scaled(numbers::digits_value(whole, 10000000000), places);
+    let high = scaled(numbers::digits_value(whole, MOST_DIGITS), places);
     let number = high
         + scaled(
-            numbers::digits_value(fraction, 10000000000),
+            numbers::digits_value(fraction, MOST_DIGITS),
             places - fraction.len(),
         );
     if (number < least) | (most < number) {
@@ -401,26 +449,26 @@ pub fn read_integer_difference(t: &[u8]) -> Parameter
     let Parameter::Is(n) = read_decimal(t, 0, 0, 4294967295) else {
         return Parameter::Bad;
     };
-    Parameter::Is(n * 1000000)
+    Parameter::Is(n * output::MILLIONTHS)
 }
 
 // A difference of floats, in millionths.
 pub fn read_float_difference(t: &[u8]) -> Parameter
     ensures { λ r. ⌜ r ≡ floatDifferenceOf (now (t .entry)) ⌝ }
 {
-    read_decimal(t, 6, 0, 2097152000000)
+    read_decimal(t, 6, 0, MOST_FLOAT_DIFFERENCE)
 }
 
 // A period, in milliseconds.
 pub fn read_period(t: &[u8]) -> Parameter
     ensures { λ r. ⌜ r ≡ periodOf (now (t .entry)) ⌝ }
 {
-    read_decimal(t, 3, 1, 86400000)
+    read_decimal(t, 3, 1, LONGEST_PERIOD)
 }
 
 // A shortest period, which may be 0, in milliseconds.
 pub fn read_shortest(t: &[u8]) -> Parameter
     ensures { λ r. ⌜ r ≡ shortestOf (now (t .entry)) ⌝ }
 {
-    read_decimal(t, 3, 0, 86400000)
+    read_decimal(t, 3, 0, LONGEST_PERIOD)
 }

@@ -36,21 +36,24 @@ shared-slice-read-fourth c =
 
 returns-2 : tie.Need-returns-2
 returns-2 c =
-    let c1 = c .before in
-    let c2 = c1 .before .before .before .before .before .before in
-    limit-integer _ _ _ _ (bytes c2) _ (c1 .if1 .taken) (c .biased-word .ensures)
+    let m = c .before .before in
+    let c1 = m .before .before .before in
+    limit-integer _ _ _ _ (bytes (c1 .before .before .before)) _ (sym (m .is-integer .ensures) ∙ c .before .if1 .taken) (c .biased-word .ensures)
 
 returns-3 : tie.Need-returns-3
 returns-3 c =
-    let c1 = c .before .before .before .before in
-    let c2 = c1 .before .before .before .before .before .before in
-    limit-float _ _ _ _ (bytes c2) _ (c1 .if1 .left) (sym (c .before .n .given .1) ∙ c .before .before .before .grid-word .ensures)
+    let i = c .before .before .before .before in
+    let m = i .before in
+    let c1 = m .before .before .before in
+    limit-float _ _ _ _ (bytes (c1 .before .before .before)) _ (sym (m .is-integer .ensures) ∙ i .if1 .left) (sym (c .before .n .given .1) ∙ c .before .before .before .grid-word .ensures)
 
 returns-4 : tie.Need-returns-4
 returns-4 c =
-    let c1 = c .before .before .before .before .before .before .before .before .before in
-    limit-float _ _ _ _ (bytes c1) _ (c .before .before .before .if1 .left) (sym (c .enum-told2 .given .1) ∙ c .before .before .grid-word .ensures)
+    let i = c .before .before .before in
+    let m = i .before in
+    let c1 = m .before .before .before in
+    limit-float _ _ _ _ (bytes (c1 .before .before .before)) _ (sym (m .is-integer .ensures) ∙ i .if1 .left) (sym (c .enum-told2 .given .1) ∙ c .before .before .grid-word .ensures)
 
 pub limit-at-spec : {M : Type 1} → statement M
 limit-at-spec =
-    tie.close (tie.spec (λ c κs. search needs) (λ c. search needs) (λ c. search needs) returns (λ c. omega (arith, span c)) (λ c. omega (arith, span c)) (λ c. omega (arith, span c)) (λ c. omega (arith, span (c .before .before))) shared-slice-read-second shared-slice-read-third shared-slice-read-fourth (λ c κs. search needs) returns-2 (λ c κs. search needs) (λ c. search needs) (λ c. search needs) returns-3 (λ c. search needs) returns-4)
+    tie.close (tie.spec (λ c κs. search needs) (λ c. search needs) (λ c. search needs) returns (λ c. omega (arith, span c)) (λ c. omega (arith, span c)) (λ c. omega (arith, span c)) (λ c. omega (arith, span (c .before .before))) shared-slice-read-second shared-slice-read-third shared-slice-read-fourth (λ c κs. search needs) (λ c κs. search needs) returns-2 (λ c κs. search needs) (λ c. search needs) (λ c. search needs) returns-3 (λ c. search needs) returns-4)

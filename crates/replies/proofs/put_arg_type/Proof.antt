@@ -10,28 +10,46 @@ use Rattle.replies.proofs.put_arg_type.Tie as tie
 
 returns : tie.Need-returns
 unfolding typeText
-returns c = rw (c .before .before .before .before .before .match .keys1) (c .before .before .put-arg .ensures)
+returns c =
+    let c0 = c .before .before in
+    rw (c0 .before .before .before .match .keys1) (c0 .put-arg .ensures)
 
 returns-2 : tie.Need-returns-2
 unfolding typeText
-returns-2 c = rw (c .before .before .before .before .before .match .keys2) (c .before .before .put-arg2 .ensures)
+returns-2 c =
+    let c0 = c .before .before in
+    rw (c0 .before .before .before .match .keys2) (c0 .put-arg2 .ensures)
 
 returns-3 : tie.Need-returns-3
 unfolding typeText
-returns-3 c = rw (c .before .before .before .before .before .match .keys3) (c .before .before .put-arg3 .ensures)
+returns-3 c =
+    let c0 = c .before .before in
+    rw (c0 .before .before .before .match .keys3) (c0 .put-arg3 .ensures)
 
 returns-4 : tie.Need-returns-4
 unfolding typeText
-returns-4 c = rw (c .before .before .before .before .before .match .keys4) (c .before .before .put-arg4 .ensures)
+returns-4 c =
+    let c0 = c .before .before in
+    rw (c0 .before .before .before .match .keys4) (c0 .put-arg4 .ensures)
 
 returns-5 : tie.Need-returns-5
 unfolding typeText
-returns-5 c = rw (c .before .before .before .before .before .match .keys5) (c .before .before .put-arg5 .ensures)
+returns-5 c =
+    let c0 = c .before .before in
+    rw (c0 .before .before .before .match .keys5) (c0 .put-arg5 .ensures)
 
 returns-6 : tie.Need-returns-6
 unfolding typeText
 returns-6 c =
-    rw (List·getD-eq-default _ (text "timestamp") (past-all 5 (c .before .before .before .before .before .before .before .args .kind) (c .before .before .before .before .before .match .rest))) (c .before .before .put-arg6 .ensures)
+    let c0 = c .before .before in
+    rw (c0 .before .before .before .match .keys6) (c0 .put-arg6 .ensures)
+
+returns-7 : tie.Need-returns-7
+unfolding typeText
+returns-7 c =
+    let c0 = c .before .before in
+    let m = c0 .before .before .before in
+    rw (List·getD-eq-default _ (text "timestamp") (past-all 5 (m .before .before .args .kind) (m .match .rest .0))) (c0 .put-arg7 .ensures)
 
 same-length : tie.Need-same-length
 same-length c = same (returns c)
@@ -51,5 +69,8 @@ same-length-5 c = same (returns-5 c)
 same-length-6 : tie.Need-same-length-6
 same-length-6 c = same (returns-6 c)
 
+same-length-7 : tie.Need-same-length-7
+same-length-7 c = same (returns-7 c)
+
 pub put-arg-type-spec : {M : Type 1} → statement M
-put-arg-type-spec = tie.close (tie.spec (λ c. search needs) (λ c κs. search needs) (λ c. search needs) (λ c κs. search needs) (λ c. search needs) (λ c κs. search needs) (λ c. search needs) (λ c κs. search needs) (λ c. search needs) (λ c κs. search needs) (λ c. search needs) (λ c κs. search needs) same-length returns same-length-2 returns-2 same-length-3 returns-3 same-length-4 returns-4 same-length-5 returns-5 same-length-6 returns-6)
+put-arg-type-spec = tie.close (tie.spec (λ c. search needs) (λ c κs. search needs) (λ c. search needs) (λ c κs. search needs) (λ c. search needs) (λ c κs. search needs) (λ c. search needs) (λ c κs. search needs) (λ c. search needs) (λ c κs. search needs) (λ c. search needs) (λ c κs. search needs) (λ c. search needs) (λ c κs. search needs) same-length returns same-length-2 returns-2 same-length-3 returns-3 same-length-4 returns-4 same-length-5 returns-5 same-length-6 returns-6 same-length-7 returns-7)

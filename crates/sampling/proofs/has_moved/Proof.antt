@@ -6,8 +6,10 @@ use Rattle.sampling.proofs.has_moved.Tie as tie
 
 returns : tie.Need-returns
 unfolding moved
-returns c = cc
+returns c =
+    let d = c .before .before in
+    rw (d .before .before .status-changed .ensures, d .is-beyond .ensures, d .before .distance .ensures, c .before .is-valid .ensures, c .is-valid2 .ensures)
 
 pub has-moved-spec : {M : Type 1} → statement M
 has-moved-spec =
-    tie.close (tie.spec (λ c κs. search needs) (λ c κs. search needs) (λ c κs. search needs) returns)
+    tie.close (tie.spec (λ c κs. search needs) (λ c κs. search needs) (λ c κs. search needs) (λ c κs. search needs) (λ c κs. search needs) returns)

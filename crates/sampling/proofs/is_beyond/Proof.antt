@@ -1,5 +1,5 @@
 -- The quotients compare as the products do.
-use borrow.Author.Tests.{eq-eqb, ne-eqb}
+use borrow.Author.Tests.{ne-eqb}
 use Rattle.machine.specs.Report.{beyond}
 use Rattle.sampling.proofs.WidthLaws.{by-quotients, by-quotient}
 use borrow.Author.Needs.{needs}
@@ -8,11 +8,15 @@ use Rattle.sampling.proofs.is_beyond.Tie as tie
 
 returns : tie.Need-returns
 unfolding beyond
-returns c = simp (eq-eqb _ _ (c .if1 .taken)) (by-quotients (c .before .before .args .difference) (c .before .before .args .units))
+returns c = rw (c .match .keys1) (by-quotient (c .before .args .difference) (c .before .args .units))
 
 returns-2 : tie.Need-returns-2
 unfolding beyond
-returns-2 c = simp (ne-eqb _ _ (c .if1 .left)) (by-quotient (c .before .before .args .difference) (c .before .before .args .units))
+returns-2 c = rw (c .match .keys2) (by-quotients (c .before .args .difference) (c .before .args .units))
+
+returns-3 : tie.Need-returns-3
+unfolding beyond
+returns-3 c = rw (ne-eqb _ _ (c .match .rest .1)) (by-quotient (c .before .args .difference) (c .before .args .units))
 
 pub is-beyond-spec : {M : Type 1} → statement M
-is-beyond-spec = tie.close (tie.spec (λ c. search needs) (λ c. search needs) (λ c. search needs) returns returns-2)
+is-beyond-spec = tie.close (tie.spec (λ c. search needs) (λ c. search needs) (λ c. search needs) returns returns-2 returns-3)

@@ -1,16 +1,20 @@
--- The test of the type chooses the row of `differenceOk`.
-use borrow.Author.Tests.{eq-eqb, ne-eqb}
+-- Each arm is a row of `differenceOk`.
+use borrow.Author.Tests.{ne-eqb}
 use Rattle.machine.specs.Range.{differenceOk}
 use Rattle.sheet.proofs.difference_ok.Statement.{statement}
 use Rattle.sheet.proofs.difference_ok.Tie as tie
 
 returns : tie.Need-returns
 unfolding differenceOk
-returns c = rw (eq-eqb _ _ (c .if1 .taken))
+returns c = rw (c .match .keys1)
 
 returns-2 : tie.Need-returns-2
 unfolding differenceOk
-returns-2 c = rw (ne-eqb _ _ (c .if1 .left))
+returns-2 c = rw (c .match .keys2)
+
+returns-3 : tie.Need-returns-3
+unfolding differenceOk
+returns-3 c = rw (ne-eqb _ _ (c .match .rest .0 .1), ne-eqb _ _ (c .match .rest .1))
 
 pub difference-ok-spec : {M : Type 1} → statement M
-difference-ok-spec = tie.close (tie.spec returns returns-2)
+difference-ok-spec = tie.close (tie.spec returns returns-2 returns-3)

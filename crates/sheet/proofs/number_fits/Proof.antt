@@ -22,9 +22,13 @@ returns-4 c = rw (c .match .keys4)
 
 returns-5 : tie.Need-returns-5
 unfolding numberFits
-returns-5 c =
-    let n = c .match .rest in
+returns-5 c = rw (c .match .keys5)
+
+returns-6 : tie.Need-returns-6
+unfolding numberFits
+returns-6 c =
+    let n = c .match .rest .0 in
     rw (ne-eqb _ _ (n .0 .0 .0 .1), ne-eqb _ _ (n .0 .0 .1), ne-eqb _ _ (n .0 .1), ne-eqb _ _ (n .1))
 
 pub number-fits-spec : {M : Type 1} → statement M
-number-fits-spec = tie.close (tie.spec returns returns-2 returns-3 returns-4 returns-5)
+number-fits-spec = tie.close (tie.spec returns returns-2 returns-3 returns-4 returns-5 returns-6)

@@ -15,7 +15,21 @@ returns-2 c = ap isMeasured (sym (c .match .keys2))
 
 returns-3 : tie.Need-returns-3
 unfolding isMeasured
-returns-3 c = rw (ne-eqb _ _ (c .match .rest .0 .1), ne-eqb _ _ (c .match .rest .1))
+returns-3 c = ap isMeasured (sym (c .match .keys3))
+
+returns-4 : tie.Need-returns-4
+unfolding isMeasured
+returns-4 c = ap isMeasured (sym (c .match .keys4))
+
+returns-5 : tie.Need-returns-5
+unfolding isMeasured
+returns-5 c = ap isMeasured (sym (c .match .keys5))
+
+returns-6 : tie.Need-returns-6
+unfolding isMeasured
+returns-6 c =
+    let n = c .match .rest in
+    rw (ne-eqb _ _ (n .0 .0 .0 .0 .1), ne-eqb _ _ (n .0 .0 .0 .1))
 
 pub is-measured-spec : {M : Type 1} → statement M
-is-measured-spec = tie.close (tie.spec returns returns-2 returns-3)
+is-measured-spec = tie.close (tie.spec returns returns-2 returns-3 returns-4 returns-5 returns-6)

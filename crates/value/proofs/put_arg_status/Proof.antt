@@ -10,32 +10,52 @@ use Rattle.value.proofs.put_arg_status.Tie as tie
 
 returns : tie.Need-returns
 unfolding statusText
-returns c = rw (c .before .before .before .before .before .match .keys1) (c .before .before .put-arg .ensures)
+returns c =
+    let c0 = c .before .before in
+    rw (c0 .before .before .before .match .keys1) (c0 .put-arg .ensures)
 
 returns-2 : tie.Need-returns-2
 unfolding statusText
-returns-2 c = rw (c .before .before .before .before .before .match .keys2) (c .before .before .put-arg2 .ensures)
+returns-2 c =
+    let c0 = c .before .before in
+    rw (c0 .before .before .before .match .keys2) (c0 .put-arg2 .ensures)
 
 returns-3 : tie.Need-returns-3
 unfolding statusText
-returns-3 c = rw (c .before .before .before .before .before .match .keys3) (c .before .before .put-arg3 .ensures)
+returns-3 c =
+    let c0 = c .before .before in
+    rw (c0 .before .before .before .match .keys3) (c0 .put-arg3 .ensures)
 
 returns-4 : tie.Need-returns-4
 unfolding statusText
-returns-4 c = rw (c .before .before .before .before .before .match .keys4) (c .before .before .put-arg4 .ensures)
+returns-4 c =
+    let c0 = c .before .before in
+    rw (c0 .before .before .before .match .keys4) (c0 .put-arg4 .ensures)
 
 returns-5 : tie.Need-returns-5
 unfolding statusText
-returns-5 c = rw (c .before .before .before .before .before .match .keys5) (c .before .before .put-arg5 .ensures)
+returns-5 c =
+    let c0 = c .before .before in
+    rw (c0 .before .before .before .match .keys5) (c0 .put-arg5 .ensures)
 
 returns-6 : tie.Need-returns-6
 unfolding statusText
-returns-6 c = rw (c .before .before .before .before .before .match .keys6) (c .before .before .put-arg6 .ensures)
+returns-6 c =
+    let c0 = c .before .before in
+    rw (c0 .before .before .before .match .keys6) (c0 .put-arg6 .ensures)
 
 returns-7 : tie.Need-returns-7
 unfolding statusText
 returns-7 c =
-    rw (List·getD-eq-default _ (text "inactive") (past-all 6 (c .before .before .before .before .before .before .before .args .status) (c .before .before .before .before .before .match .rest))) (c .before .before .put-arg7 .ensures)
+    let c0 = c .before .before in
+    rw (c0 .before .before .before .match .keys7) (c0 .put-arg7 .ensures)
+
+returns-8 : tie.Need-returns-8
+unfolding statusText
+returns-8 c =
+    let c0 = c .before .before in
+    let m = c0 .before .before .before in
+    rw (List·getD-eq-default _ (text "inactive") (past-all 6 (m .before .before .args .status) (m .match .rest .0))) (c0 .put-arg8 .ensures)
 
 same-length : tie.Need-same-length
 same-length c = same (returns c)
@@ -58,5 +78,8 @@ same-length-6 c = same (returns-6 c)
 same-length-7 : tie.Need-same-length-7
 same-length-7 c = same (returns-7 c)
 
+same-length-8 : tie.Need-same-length-8
+same-length-8 c = same (returns-8 c)
+
 pub put-arg-status-spec : {M : Type 1} → statement M
-put-arg-status-spec = tie.close (tie.spec (λ c. search needs) (λ c κs. search needs) (λ c. search needs) (λ c κs. search needs) (λ c. search needs) (λ c κs. search needs) (λ c. search needs) (λ c κs. search needs) (λ c. search needs) (λ c κs. search needs) (λ c. search needs) (λ c κs. search needs) (λ c. search needs) (λ c κs. search needs) same-length returns same-length-2 returns-2 same-length-3 returns-3 same-length-4 returns-4 same-length-5 returns-5 same-length-6 returns-6 same-length-7 returns-7)
+put-arg-status-spec = tie.close (tie.spec (λ c. search needs) (λ c κs. search needs) (λ c. search needs) (λ c κs. search needs) (λ c. search needs) (λ c κs. search needs) (λ c. search needs) (λ c κs. search needs) (λ c. search needs) (λ c κs. search needs) (λ c. search needs) (λ c κs. search needs) (λ c. search needs) (λ c κs. search needs) (λ c. search needs) (λ c κs. search needs) same-length returns same-length-2 returns-2 same-length-3 returns-3 same-length-4 returns-4 same-length-5 returns-5 same-length-6 returns-6 same-length-7 returns-7 same-length-8 returns-8)

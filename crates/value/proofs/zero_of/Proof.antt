@@ -15,7 +15,21 @@ returns-2 c = ap zeroOf (sym (c .match .keys2))
 
 returns-3 : tie.Need-returns-3
 unfolding zeroOf
-returns-3 c = rw (ne-eqb _ _ (c .match .rest .0 .1), ne-eqb _ _ (c .match .rest .1))
+returns-3 c = ap zeroOf (sym (c .match .keys3))
+
+returns-4 : tie.Need-returns-4
+unfolding zeroOf
+returns-4 c = ap zeroOf (sym (c .match .keys4))
+
+returns-5 : tie.Need-returns-5
+unfolding zeroOf
+returns-5 c = ap zeroOf (sym (c .match .keys5))
+
+returns-6 : tie.Need-returns-6
+unfolding zeroOf
+returns-6 c =
+    let n = c .match .rest in
+    rw (ne-eqb _ _ (n .0 .0 .0 .0 .1), ne-eqb _ _ (n .0 .0 .0 .1))
 
 pub zero-of-spec : {M : Type 1} → statement M
-zero-of-spec = tie.close (tie.spec returns returns-2 returns-3)
+zero-of-spec = tie.close (tie.spec returns returns-2 returns-3 returns-4 returns-5 returns-6)
