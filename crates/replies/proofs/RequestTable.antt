@@ -1,5 +1,5 @@
 -- The table of requests, and the informs of `help` on it, one after another.
-use Prim.Native.Nat.{ℕ, zero, suc, _+_, _≤_, _<_}
+use Prim.Native.Nat.{ℕ, _+_, _≤_, _<_}
 use native.Mathlib.Omega.{arith}
 use native.Mathlib.Numerals.{add-one}
 use mathlib.Core.Path.{_≡_, refl, sym, ap, _∙_}
@@ -8,8 +8,8 @@ use Rattle.output.specs.Text.{text}
 use Rattle.output.specs.Output.{Output}
 use Rattle.output.proofs.TableLaws.{NoneOf, past-all}
 use Rattle.texts.specs.Table.{wordCount, wordOf, placeOf}
-use Rattle.message.specs.Delivery.{Delivery, to, Sent}
-use Rattle.message.proofs.DeliveryLaws.{and, none-sent, as-sent}
+use Rattle.message.specs.Delivery.{to, Sent}
+use Rattle.message.proofs.DeliveryLaws.{and, none-sent}
 use Rattle.machine.specs.declared.Found.the-variants.{Unknown}
 use Rattle.machine.specs.Places.{gather}
 use Rattle.machine.specs.Messages.{allTo, helpInform}

@@ -9,7 +9,6 @@ use mathlib.Core.Option.{Option, none, some}
 use lib.Dec.{ltb}
 use lib.ListN.{length}
 use borrow.Author.Tests.{not-false, ne-eqb, ltb-false, le-ltb, lt-ltb}
-use Rattle.output.specs.Text.{text}
 use Rattle.message.specs.Message.{Message}
 use Rattle.line.specs.declared.Header.{Header}
 use Rattle.line.specs.declared.Parsed.the-variants as P

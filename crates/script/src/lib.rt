@@ -23,6 +23,7 @@ ghost use Rattle.script.specs.Replay as replays;
 
 // The longest line of a script, and how many bytes its words can stand for.
 const LONGEST_LINE: usize = 65536;
+
 const MOST_BYTES: usize = LONGEST_LINE / 2;
 
 // A reading that a line gives, or that its words are none.

@@ -22,19 +22,10 @@ Inv-loop sheet n taken₀ k₀ taken k = (k ≤ n) × (taken ≡ cond (opens she
 abbrev μ-loop : tie.MeasureT-loop
 μ-loop sheet n taken₀ k₀ taken k = n - k
 
-loop-holds : tie.Need-loop-holds Inv-loop μ-loop
-loop-holds c = (omega arith, none-yet (opens (c .before .args .sheet .now)))
-
 counted-requires : tie.Need-counted-requires Inv-loop μ-loop
 counted-requires c κs =
     let l = c .before .before .before in
     omega (arith, at-most (opens (l .before .before .args .sheet .now)) (l .loop .k) (l .loop .inv .1))
-
-add-k : tie.Need-add-k Inv-loop μ-loop
-add-k c = omega arith
-
-loop-less : tie.Need-loop-less Inv-loop μ-loop
-loop-less c = omega arith
 
 loop-again : tie.Need-loop-again Inv-loop μ-loop
 loop-again c =
@@ -48,4 +39,4 @@ returns c =
 
 pub bench-opens-spec : {M : Type 1} → statement M
 bench-opens-spec =
-    tie.close (tie.spec Inv-loop μ-loop loop-holds (λ c κs. search needs) counted-requires add-k loop-less loop-again returns)
+    tie.close (tie.spec Inv-loop μ-loop (λ c. (omega arith, none-yet (opens (c .before .args .sheet .now)))) (λ c κs. search needs) counted-requires (λ c. omega arith) (λ c. omega arith) loop-again returns)

@@ -15,19 +15,10 @@ Inv-loop state n passed₀ k₀ passed k = (k ≤ n) × (passed ≡ cond (inRang
 abbrev μ-loop : tie.MeasureT-loop
 μ-loop state n passed₀ k₀ passed k = n - k
 
-loop-holds : tie.Need-loop-holds Inv-loop μ-loop
-loop-holds c = (omega arith, none-yet (inRange (c .args .state)))
-
 counted-requires : tie.Need-counted-requires Inv-loop μ-loop
 counted-requires c κs =
     let l = c .before .before in
     omega (arith, at-most (inRange (l .before .args .state)) (l .loop .k) (l .loop .inv .1))
-
-add-k : tie.Need-add-k Inv-loop μ-loop
-add-k c = omega arith
-
-loop-less : tie.Need-loop-less Inv-loop μ-loop
-loop-less c = omega arith
 
 loop-again : tie.Need-loop-again Inv-loop μ-loop
 loop-again c =
@@ -41,4 +32,4 @@ returns c =
 
 pub check-spec : {M : Type 1} → statement M
 check-spec =
-    tie.close (tie.spec Inv-loop μ-loop loop-holds (λ c κs. search needs) counted-requires add-k loop-less loop-again returns)
+    tie.close (tie.spec Inv-loop μ-loop (λ c. (omega arith, none-yet (inRange (c .args .state)))) (λ c κs. search needs) counted-requires (λ c. omega arith) (λ c. omega arith) loop-again returns)

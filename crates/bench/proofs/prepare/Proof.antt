@@ -9,8 +9,7 @@ use Rattle.bench.proofs.prepare.Tie as tie
 returns : tie.Need-returns
 unfolding prepared
 returns c =
-    let o = c .before .before .before .before .before .open .ensures in
-    let r = c .before .before .before .repeat .ensures in
+    let c1 = c .before .before .before in let c2 = c1 .before .before in let o = c2 .open .ensures in let r = c1 .repeat .ensures in
     (ap (λ (x : Repeated). x .state) (rw o at (r .0)), rw o at (r .1))
 
 pub prepare-spec : {M : Type 1} → statement M

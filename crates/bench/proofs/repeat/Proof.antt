@@ -16,27 +16,12 @@ Inv-loop round line n out₀ state₀ taken₀ k₀ out state taken k =
 abbrev μ-loop : tie.MeasureT-loop
 μ-loop round line n out₀ state₀ taken₀ k₀ out state taken k = n - k
 
-loop-holds : tie.Need-loop-holds Inv-loop μ-loop
-loop-holds c = (omega arith, omega arith, search needs, starts _ _ _)
-
-counted-requires : tie.Need-counted-requires Inv-loop μ-loop
-counted-requires c κs = omega arith
-
-add-k : tie.Need-add-k Inv-loop μ-loop
-add-k c = omega arith
-
-loop-less : tie.Need-loop-less Inv-loop μ-loop
-loop-less c = omega arith
-
 loop-again : tie.Need-loop-again Inv-loop μ-loop
 loop-again c =
-    let h = c .before .before .before .before .before .before .before .before .before .loop .inv in
-    let t = c .before .before .before .before .before .before .turn in
-    (omega arith, omega (arith, c .before .counted .ensures .1), search needs, goes-on _ (h .3) (t .ensures .0) (t .ensures .1) (c .before .counted .ensures .0))
-
-returns : tie.Need-returns Inv-loop μ-loop
-returns c = ends (omega arith) (c .before .loop .inv .3)
+    let c1 = c .before in let c2 = c1 .before .before .before in let c3 = c2 .before .before in let c4 = c3 .before .before .before in let h = c4 .loop .inv in
+    let t = c3 .turn in
+    (omega arith, omega (arith, c1 .counted .ensures .1), search needs, goes-on _ (h .3) (t .ensures .0) (t .ensures .1) (c1 .counted .ensures .0))
 
 pub repeat-spec : {M : Type 1} → statement M
 repeat-spec =
-    tie.close (tie.spec Inv-loop μ-loop loop-holds (λ c κs. search needs) counted-requires add-k loop-less loop-again (λ c. search needs) returns)
+    tie.close (tie.spec Inv-loop μ-loop (λ c. (omega arith, omega arith, search needs, starts _ _ _)) (λ c κs. search needs) (λ c κs. omega arith) (λ c. omega arith) (λ c. omega arith) loop-again (λ c. search needs) (λ c. ends (omega arith) (c .before .loop .inv .3)))

@@ -17,21 +17,11 @@ abbrev μ-loop : tie.MeasureT-loop
 μ-loop s out₀ state₀ from₀ end₀ out state from end = length s - end
 
 -- the next line ends within the text
-ends : (c : tie.After-len-before2 Inv-loop μ-loop) → c .before .before .before .before .before .before .before .before .before .before .before .loop .end + 1 + c .len-before2 .result ≤ length (c .before .before .before .before .before .before .before .before .before .before .before .before .before .before .before .args .s .now)
-ends c = before-fits 10 (c .before .before .before .before .before .before .before .before .before .before .before .before .before .before .before .args .s .now) (c .before .before .before .before .before .before .before .before .before .before .before .loop .end + 1) (c .len-before2 .result) (omega arith) (c .len-before2 .ensures)
-
-loop-holds : tie.Need-loop-holds Inv-loop μ-loop
-loop-holds c = omega (arith, run-le (other 10) (c .before .before .before .args .s .now))
-
-add-end : tie.Need-add-end Inv-loop μ-loop
-add-end c = omega (arith, ends c)
-
-loop-less : tie.Need-loop-less Inv-loop μ-loop
-loop-less c = omega (arith, ends c)
-
-loop-again : tie.Need-loop-again Inv-loop μ-loop
-loop-again c = omega (arith, ends c)
+ends : (c : tie.After-len-before2 Inv-loop μ-loop) → let c1 = c .before .before .before .before in let c2 = c1 .before .before .before .before in let c3 = c2 .before .before .before in let c4 = c3 .before .before .before .before in c3 .loop .end + 1 + c .len-before2 .result ≤ length (c4 .args .s .now)
+ends c = let c1 = c .before .before .before .before in let c2 = c1 .before .before .before .before in let c3 = c2 .before .before .before in let c4 = c3 .before .before .before .before in before-fits 10 (c4 .args .s .now) (c3 .loop .end + 1) (c .len-before2 .result) (omega arith) (c .len-before2 .ensures)
 
 pub serve-lines-spec : {M : Type 1} → statement M
 serve-lines-spec =
-    tie.close (tie.spec Inv-loop μ-loop (λ c κs. search needs) loop-holds (λ c. search needs) (λ c. search needs) (λ c. search needs) (λ c κs. search needs) (λ c. search needs) (λ c. search needs) (λ c. search needs) (λ c. search needs) (λ c. search needs) (λ c. search needs) (λ c κs. search needs) add-end loop-less loop-again (λ c. search needs) (λ c. search needs))
+    tie.close (tie.spec Inv-loop μ-loop (λ c κs. search needs)
+    (λ c. omega (arith, run-le (other 10) (c .before .before .before .args .s .now)))
+    (λ c. search needs) (λ c. search needs) (λ c. search needs) (λ c κs. search needs) (λ c. search needs) (λ c. search needs) (λ c. search needs) (λ c. search needs) (λ c. search needs) (λ c. search needs) (λ c κs. search needs) (λ c. omega (arith, ends c)) (λ c. omega (arith, ends c)) (λ c. omega (arith, ends c)) (λ c. search needs) (λ c. search needs))

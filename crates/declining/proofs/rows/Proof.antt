@@ -4,14 +4,7 @@ use borrow.Author.Needs.{needs}
 use Rattle.declining.proofs.rows.Statement.{statement}
 use Rattle.declining.proofs.rows.Tie as tie
 
-returns-2 : tie.Need-returns-2
-returns-2 c = rw (c .before .if1 .left, lt-ltb _ _ (c .if2 .taken))
-
-returns-3 : tie.Need-returns-3
-returns-3 c = rw (c .before .before .if1 .left, le-ltb _ _ (c .before .if2 .left), c .if3 .taken)
-
-returns-4 : tie.Need-returns-4
-returns-4 c = rw (c .before .before .if1 .left, le-ltb _ _ (c .before .if2 .left), c .if3 .left)
-
 pub rows-spec : {M : Type 1} → statement M
-rows-spec = tie.close (tie.spec (λ c. search needs) returns-2 returns-3 returns-4)
+rows-spec = tie.close (tie.spec (λ c. search needs) (λ c. rw (c .before .if1 .left, lt-ltb _ _ (c .if2 .taken)))
+    (λ c. rw (c .before .before .if1 .left, le-ltb _ _ (c .before .if2 .left), c .if3 .taken))
+    (λ c. rw (c .before .before .if1 .left, le-ltb _ _ (c .before .if2 .left), c .if3 .left)))

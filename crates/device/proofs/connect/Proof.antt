@@ -14,32 +14,26 @@ use Rattle.device.proofs.connect.Statement.{statement}
 use Rattle.device.proofs.connect.Tie as tie
 
 -- where the number is 0, the client is one of the eight and its address fits
-passes : (c : tie.After-rows) → c .rows .result ≡ 0 → (c .before .before .before .before .before .before .before .before .args .client < 8) × (length (c .before .before .before .before .before .before .before .before .args .address .now) ≤ 48)
+passes : (c : tie.After-rows) → let c1 = c .before .before .before .before in let c2 = c1 .before .before .before .before in c .rows .result ≡ 0 → (c2 .args .client < 8) × (length (c2 .args .address .now) ≤ 48)
 passes c =
-    let a = c .before .before .before .before .before .before .before .before .args in
-    connect-passes (a .state) (a .out .now) (c .before .before .before .before .is-connected .result) (a .client) (a .address .now) (c .before .in-range .ensures) (c .before .before .before .address-row .ensures) (c .before .before .client-rows .ensures) (c .rows .ensures)
-
-greet-requires : tie.Need-greet-requires
-greet-requires c κs = λ z. passes (c .before) z .0
-
-newcomer-requires : tie.Need-newcomer-requires
-newcomer-requires c κs = λ z. passes (c .before .before .before .before) z .1
-
-with-client-requires : tie.Need-with-client-requires
-with-client-requires c κs = λ z. passes (c .before .before .before .before .before) z .0
+    let c1 = c .before .before .before .before in let c2 = c1 .before .before .before .before in let a = c2 .args in
+    connect-passes (a .state) (a .out .now) (c1 .is-connected .result) (a .client) (a .address .now) (c .before .in-range .ensures) (c .before .before .before .address-row .ensures) (c .before .before .client-rows .ensures) (c .rows .ensures)
 
 returns : tie.Need-returns
 unfolding actionDeclined refusal perform
 returns c =
-    let a = c .before .before .before .before .before .before .before .before .before .before .before .before .before .before .args in
+    let c1 = c .before .before .before .before in let c2 = c1 .before .before in let c3 = c2 .before in let c4 = c3 .before in let c5 = c4 .before in let c6 = c5 .before in let c7 = c6 .before .before .before .before in
+    let a = c7 .args in
     let asked = Connect (a .client) (a .address .now) in
-    let n = c .before .before .before .before .before .before .rows .result in
-    let row = c .before .before .before .before .before .before .before .before .client-rows .ensures ∙ client-same (a .client) (c .before .before .before .before .before .before .before .before .before .before .is-connected .ensures) (c .before .before .before .before .before .before .before .before .before .address-row .ensures) in
+    let n = c2 .rows .result in
+    let row = c4 .client-rows .ensures ∙ client-same (a .client) (c6 .is-connected .ensures) (c5 .address-row .ensures) in
     rw (c .with-client .ensures)
-    (one-exit (a .state) asked (a .out .now) (declined-by (a .state) asked (a .out .now) (c .before .before .before .before .before .before .before .in-range .ensures) row (c .before .before .before .before .before .before .rows .ensures)) refl refl
+    (one-exit (a .state) asked (a .out .now) (declined-by (a .state) asked (a .out .now) (c3 .in-range .ensures) row (c2 .rows .ensures)) refl refl
     (rw (c .before .newcomer .ensures) (chosen (withClient (a .state) (a .client)) (eqb n 0) (clientAt (a .address .now)) blankClient (a .state)))
-    (c .before .before .before .before .greet .ensures))
+    (c1 .greet .ensures))
 
 pub connect-spec : {M : Type 1} → statement M
 connect-spec =
-    tie.close (tie.spec (λ c κs. search needs) (λ c κs. search needs) (λ c κs. search needs) (λ c κs. search needs) (λ c κs. search needs) greet-requires newcomer-requires with-client-requires (λ c. search needs) returns)
+    tie.close (tie.spec (λ c κs. search needs) (λ c κs. search needs) (λ c κs. search needs) (λ c κs. search needs) (λ c κs. search needs) (λ c κs. λ z. passes (c .before) z .0) (λ c κs. λ z. passes (c .before .before .before .before) z .1)
+    (λ c κs. let c1 = c .before .before .before in let c2 = c1 .before .before in λ z. passes c2 z .0)
+    (λ c. search needs) returns)

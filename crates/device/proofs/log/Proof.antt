@@ -13,12 +13,13 @@ use Rattle.device.proofs.log.Tie as tie
 returns : tie.Need-returns
 unfolding actionDeclined refusal perform entries
 returns c =
-    let a = c .before .before .before .before .before .before .before .before .before .before .before .args in
+    let c1 = c .before .before in let c2 = c1 .before .before .before in let c3 = c2 .before in let c4 = c3 .before in let c5 = c4 .before .before .before .before in
+    let a = c5 .args in
     let asked = Log (a .level) (a .logger .now) (a .message .now) in
-    let passes = eqb (c .before .before .before .before .before .rows .result) 0 in
-    one-exit (a .state) asked (a .out .now) (declined-by (a .state) asked (a .out .now) (c .before .before .before .before .before .before .in-range .ensures) (c .before .before .before .before .before .before .before .entry-row .ensures) (c .before .before .before .before .before .rows .ensures)) refl refl
+    let passes = eqb (c2 .rows .result) 0 in
+    one-exit (a .state) asked (a .out .now) (declined-by (a .state) asked (a .out .now) (c3 .in-range .ensures) (c4 .entry-row .ensures) (c2 .rows .ensures)) refl refl
     (sym (cond-same passes (a .state)))
-    (rw by-both at (c .before .before .put-entry .ensures))
+    (rw by-both at (c1 .put-entry .ensures))
 
 pub log-spec : {M : Type 1} → statement M
 log-spec =

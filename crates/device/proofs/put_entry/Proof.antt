@@ -4,11 +4,7 @@ use Rattle.message.proofs.DeliveryLaws.{none-sent}
 use Rattle.device.proofs.put_entry.Statement.{statement}
 use Rattle.device.proofs.put_entry.Tie as tie
 
-returns : tie.Need-returns
-returns c = rw (c .before .before .before .before .if1 .taken) (c .before .before .entry-to-all .ensures)
-
-returns-2 : tie.Need-returns-2
-returns-2 c = rw (c .if1 .left) none-sent
-
 pub put-entry-spec : {M : Type 1} → statement M
-put-entry-spec = tie.close (tie.spec (λ c κs. search needs) (λ c. search needs) returns returns-2)
+put-entry-spec = tie.close (tie.spec (λ c κs. search needs) (λ c. search needs)
+    (λ c. rw (c .before .before .before .before .if1 .taken) (c .before .before .entry-to-all .ensures))
+    (λ c. rw (c .if1 .left) none-sent))

@@ -4,14 +4,5 @@ use borrow.Author.Tests.{ne-eqb}
 use Rattle.device.proofs.sample_row.Statement.{statement}
 use Rattle.device.proofs.sample_row.Tie as tie
 
-returns : tie.Need-returns
-returns c = rw (ne-eqb _ _ (c .if1 .taken))
-
-returns-2 : tie.Need-returns-2
-returns-2 c = rw (c .before .before .if1 .left, c .enum-told .given .1)
-
-returns-3 : tie.Need-returns-3
-returns-3 c = rw (c .before .before .if1 .left, c .enum-told2 .given .1)
-
 pub sample-row-spec : {M : Type 1} → statement M
-sample-row-spec = tie.close (tie.spec returns (λ c. search needs) (λ c. search needs) returns-2 returns-3)
+sample-row-spec = tie.close (tie.spec (λ c. rw (ne-eqb _ _ (c .if1 .taken))) (λ c. search needs) (λ c. search needs) (λ c. rw (c .before .before .if1 .left, c .enum-told .given .1)) (λ c. rw (c .before .before .if1 .left, c .enum-told2 .given .1)))

@@ -10,12 +10,6 @@ use Rattle.machine.proofs.StoreLaws.{set-by-place}
 use Rattle.device.proofs.with_newcomer.Statement.{statement}
 use Rattle.device.proofs.with_newcomer.Tie as tie
 
-mul-next : tie.Need-mul-next
-mul-next c = let h = c .before .pre (c .if1 .taken) in search needs
-
-array-set-from-next : tie.Need-array-set-from-next
-array-set-from-next c = let h = c .before .pre (c .if1 .taken) in search needs
-
 returns : tie.Need-returns
 returns c =
     let a = c .before .args in
@@ -23,8 +17,5 @@ returns c =
     let e : length (a .clients) ≡ 8 = search needs in
     rw (c .if1 .taken, set-by-place (a .clients) (a .client) (a .k) noClient (omega arith), e)
 
-returns-2 : tie.Need-returns-2
-returns-2 c = rw (ne-eqb _ _ (c .if1 .left))
-
 pub with-newcomer-spec : {M : Type 1} → statement M
-with-newcomer-spec = tie.close (tie.spec mul-next array-set-from-next returns returns-2)
+with-newcomer-spec = tie.close (tie.spec (λ c. let h = c .before .pre (c .if1 .taken) in search needs) (λ c. let h = c .before .pre (c .if1 .taken) in search needs) returns (λ c. rw (ne-eqb _ _ (c .if1 .left))))

@@ -4,15 +4,8 @@ use borrow.Author.Tests.{ne-eqb}
 use Rattle.device.proofs.with_reading.Statement.{statement}
 use Rattle.device.proofs.with_reading.Tie as tie
 
-returns : tie.Need-returns
-returns c = rw (c .before .before .before .if1 .taken, c .before .sampled .given .1)
-
-returns-2 : tie.Need-returns-2
-returns-2 c = rw (c .before .before .if1 .taken, c .enum-told .given .1)
-
-returns-3 : tie.Need-returns-3
-returns-3 c = rw (ne-eqb _ _ (c .if1 .left))
-
 pub with-reading-spec : {M : Type 1} → statement M
 with-reading-spec =
-    tie.close (tie.spec (λ c. search needs) (λ c. search needs) (λ c. search needs) (λ c. search needs) returns returns-2 returns-3)
+    tie.close (tie.spec (λ c. search needs) (λ c. search needs) (λ c. search needs) (λ c. search needs)
+    (λ c. rw (c .before .before .before .if1 .taken, c .before .sampled .given .1))
+    (λ c. rw (c .before .before .if1 .taken, c .enum-told .given .1)) (λ c. rw (ne-eqb _ _ (c .if1 .left))))

@@ -14,26 +14,11 @@ Inv-loop number client most pairs j₀ left j = (j ≤ most) × (left ≡ tabula
 abbrev μ-loop : tie.MeasureT-loop
 μ-loop number client most pairs j₀ left j = most - j
 
-loop-holds : tie.Need-loop-holds Inv-loop μ-loop
-loop-holds c = (omega arith, cleared-none (c .before .args .pairs) (c .before .args .client) (search needs))
-
 -- in a turn the number is 0, so that the client is one of the eight, and j one of its places
 turn : (c : tie.After-no-subscription Inv-loop μ-loop) → (c .before .before .before .before .args .client < 8) × (c .before .before .loop .j < 32)
 turn c =
     let q = clears (c .before .before .before .before .args .number) (c .before .before .loop .j) (c .before .before .before .cleared .ensures) (c .before .loop-test .taken) in
     (c .before .before .before .before .pre (q .0), omega arith)
-
-mul-left : tie.Need-mul-left Inv-loop μ-loop
-mul-left c = let h = turn c in search needs
-
-add-left : tie.Need-add-left Inv-loop μ-loop
-add-left c = let h = turn c in search needs
-
-mul-left-2 : tie.Need-mul-left-2 Inv-loop μ-loop
-mul-left-2 c = let h = turn c in search needs
-
-array-set-from-left : tie.Need-array-set-from-left Inv-loop μ-loop
-array-set-from-left c = let h = turn c in search needs
 
 loop-again : tie.Need-loop-again Inv-loop μ-loop
 loop-again c =
@@ -50,4 +35,6 @@ returns c =
 
 pub without-client-spec : {M : Type 1} → statement M
 without-client-spec =
-    tie.close (tie.spec Inv-loop μ-loop (λ c κs. search needs) loop-holds (λ c κs. search needs) mul-left add-left mul-left-2 array-set-from-left (λ c. search needs) (λ c. search needs) loop-again returns)
+    tie.close (tie.spec Inv-loop μ-loop (λ c κs. search needs)
+    (λ c. (omega arith, cleared-none (c .before .args .pairs) (c .before .args .client) (search needs)))
+    (λ c κs. search needs) (λ c. let h = turn c in search needs) (λ c. let h = turn c in search needs) (λ c. let h = turn c in search needs) (λ c. let h = turn c in search needs) (λ c. search needs) (λ c. search needs) loop-again returns)

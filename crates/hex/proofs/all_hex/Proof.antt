@@ -20,8 +20,7 @@ abbrev μ-loop : tie.MeasureT-loop
 
 loop-again : tie.Need-loop-again Inv-loop μ-loop
 loop-again c =
-    let l = c .before .before .before in
-    let t = l .before .before .args .t .now in
+    let l = c .before .before .before in let t = l .before .before .args .t .now in
     (omega arith, rw (c .is-hex .ensures) (found-on (l .loop .ok) _ (all isHex (drop (l .loop .i + 1) t)) (all isHex (drop (l .loop .i) t)) _ (l .loop .inv .1) (rw (at t (l .loop .i) (omega arith)))))
 
 returns : tie.Need-returns Inv-loop μ-loop

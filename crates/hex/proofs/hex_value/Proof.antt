@@ -7,21 +7,12 @@ use Rattle.output.proofs.TextLaws.{digit-range}
 use Rattle.hex.proofs.hex_value.Statement.{statement}
 use Rattle.hex.proofs.hex_value.Tie as tie
 
-sub-result : tie.Need-sub-result
-sub-result c = omega (arith, digit-range (c .before .before .args .b) (sym (c .before .is-digit .ensures) ∙ c .if1 .taken))
-
-returns : tie.Need-returns
-returns c = H.of-digit _ (sym (c .before .is-digit .ensures) ∙ c .if1 .taken)
-
-sub-result-2 : tie.Need-sub-result-2
-sub-result-2 c = omega (arith, H.letter-range (c .before .before .before .before .args .b) (sym (c .before .is-hex-letter .ensures) ∙ c .if2 .taken))
-
-returns-2 : tie.Need-returns-2
-returns-2 c = H.of-letter _ (sym (c .before .before .before .is-digit .ensures) ∙ c .before .before .if1 .left) (sym (c .before .is-hex-letter .ensures) ∙ c .if2 .taken)
-
-returns-3 : tie.Need-returns-3
-returns-3 c = H.of-none _ (sym (c .before .before .before .is-digit .ensures) ∙ c .before .before .if1 .left) (sym (c .before .is-hex-letter .ensures) ∙ c .if2 .left)
-
 pub hex-value-spec : {M : Type 1} → statement M
 hex-value-spec =
-    tie.close (tie.spec (λ c κs. search needs) sub-result returns (λ c κs. search needs) sub-result-2 (λ c. search needs) returns-2 returns-3)
+    tie.close (tie.spec (λ c κs. search needs)
+    (λ c. omega (arith, digit-range (c .before .before .args .b) (sym (c .before .is-digit .ensures) ∙ c .if1 .taken)))
+    (λ c. H.of-digit _ (sym (c .before .is-digit .ensures) ∙ c .if1 .taken)) (λ c κs. search needs)
+    (λ c. omega (arith, H.letter-range (c .before .before .before .before .args .b) (sym (c .before .is-hex-letter .ensures) ∙ c .if2 .taken)))
+    (λ c. search needs)
+    (λ c. H.of-letter _ (sym (c .before .before .before .is-digit .ensures) ∙ c .before .before .if1 .left) (sym (c .before .is-hex-letter .ensures) ∙ c .if2 .taken))
+    (λ c. H.of-none _ (sym (c .before .before .before .is-digit .ensures) ∙ c .before .before .if1 .left) (sym (c .before .is-hex-letter .ensures) ∙ c .if2 .left)))

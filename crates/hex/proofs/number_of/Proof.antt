@@ -15,21 +15,16 @@ Inv-loop t n₀ i₀ n i = (i ≤ length t) × (n < 16 ^ i) × (hexFrom n (drop 
 abbrev μ-loop : tie.MeasureT-loop
 μ-loop t n₀ i₀ n i = length t - i
 
-mul-n : tie.Need-mul-n Inv-loop μ-loop
-mul-n c = omega (arith, H.below-15 (c .before .loop .n) (c .before .loop .i) (c .before .loop .inv .1) (omega arith))
-
-add-n : tie.Need-add-n Inv-loop μ-loop
-add-n c = omega (arith, H.below-15 (c .before .before .before .loop .n) _ (c .before .before .before .loop .inv .1) (omega arith))
-
 loop-again : tie.Need-loop-again Inv-loop μ-loop
 loop-again c =
-    let l = c .before .before .before in
-    let t = l .before .before .args .t .now in
+    let l = c .before .before .before in let t = l .before .before .args .t .now in
     (omega arith, H.below-more (l .loop .n) _ (l .loop .i) (l .loop .inv .1) (c .hex-value .ensures .1), ap (λ (v : ℕ). hexFrom (l .loop .n * 16 + v) (drop (l .loop .i + 1) t)) (c .hex-value .ensures .0) ∙ H.number-more t (l .loop .i) (l .loop .n) (omega arith) ∙ l .loop .inv .2)
-
-returns : tie.Need-returns Inv-loop μ-loop
-returns c = sym (H.number-end (c .before .before .before .args .t .now) (c .before .loop .i) (c .before .loop .n) (omega arith)) ∙ c .before .loop .inv .2
 
 pub number-of-spec : {M : Type 1} → statement M
 number-of-spec =
-    tie.close (tie.spec Inv-loop μ-loop (λ c. search needs) mul-n (λ c. search needs) (λ c κs. search needs) (λ c. search needs) add-n (λ c. search needs) (λ c. search needs) loop-again returns)
+    tie.close (tie.spec Inv-loop μ-loop (λ c. search needs)
+    (λ c. omega (arith, H.below-15 (c .before .loop .n) (c .before .loop .i) (c .before .loop .inv .1) (omega arith)))
+    (λ c. search needs) (λ c κs. search needs) (λ c. search needs)
+    (λ c. omega (arith, H.below-15 (c .before .before .before .loop .n) _ (c .before .before .before .loop .inv .1) (omega arith)))
+    (λ c. search needs) (λ c. search needs) loop-again
+    (λ c. sym (H.number-end (c .before .before .before .args .t .now) (c .before .loop .i) (c .before .loop .n) (omega arith)) ∙ c .before .loop .inv .2))

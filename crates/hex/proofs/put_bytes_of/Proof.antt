@@ -19,14 +19,13 @@ abbrev μ-loop : tie.MeasureT-loop
 
 loop-again : tie.Need-loop-again Inv-loop μ-loop
 loop-again c =
-    let c1 = c .before .before .before .before .before .before .before .before in
+    let c1a = c .before .before .before .before in let c1 = c1a .before .before .before .before in
     let l = c1 in
     let t = l .before .before .before .args .t .now in
     (omega arith, R.one-more (l .loop .inv .1) _ (c .before .before .put-byte .ensures) (rw (c .before .before .before .byte-of .ensures) (H.bytes-more t (l .loop .i) (omega arith))))
 
-same-length : tie.Need-same-length Inv-loop μ-loop
-same-length c = O.same (R.all-written (c .before .loop .inv .1) (H.bytes-end (c .before .before .before .before .args .t .now) (c .before .loop .i) (omega arith)))
-
 pub put-bytes-of-spec : {M : Type 1} → statement M
 put-bytes-of-spec =
-    tie.close (tie.spec Inv-loop μ-loop (λ c. search needs) (λ c. search needs) (λ c. search needs) (λ c. search needs) (λ c. search needs) (λ c κs. search needs) (λ c κs. search needs) (λ c. search needs) (λ c. search needs) loop-again same-length (λ c. search (R.all-written, H.bytes-end, needs)))
+    tie.close (tie.spec Inv-loop μ-loop (λ c. search needs) (λ c. search needs) (λ c. search needs) (λ c. search needs) (λ c. search needs) (λ c κs. search needs) (λ c κs. search needs) (λ c. search needs) (λ c. search needs) loop-again
+    (λ c. O.same (R.all-written (c .before .loop .inv .1) (H.bytes-end (c .before .before .before .before .args .t .now) (c .before .loop .i) (omega arith))))
+    (λ c. search (R.all-written, H.bytes-end, needs)))

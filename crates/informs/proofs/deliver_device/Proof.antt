@@ -7,16 +7,8 @@ use Rattle.informs.proofs.deliver_device.Tie as tie
 
 returns : tie.Need-returns
 returns c =
-    let c0 = c .before .before in
-    let c1 = c0 .before .before .before .before in
-    let c2 = c1 .before .before in
+    let c0 = c .before .before in let c1 = c0 .before .before .before .before in let c2 = c1 .before .before in
     one (delivered (c2 .before .before .before .args .out .now) _ _ _ _ _ _ _ (c2 .line-start .result) (c2 .line-start .ensures) (c1 .device-line .ensures) (c0 .put-header .ensures))
 
-same-length : tie.Need-same-length
-same-length c = kept (returns c)
-
-add-result : tie.Need-add-result
-add-result c = let h = within (returns c) in omega arith
-
 pub deliver-device-spec : {M : Type 1} → statement M
-deliver-device-spec = tie.close (tie.spec (λ c κs. search needs) (λ c. search needs) (λ c. search needs) (λ c. search needs) (λ c κs. search needs) (λ c κs. search needs) add-result same-length returns)
+deliver-device-spec = tie.close (tie.spec (λ c κs. search needs) (λ c. search needs) (λ c. search needs) (λ c. search needs) (λ c κs. search needs) (λ c κs. search needs) (λ c. let h = within (returns c) in omega arith) (λ c. kept (returns c)) returns)

@@ -4,11 +4,7 @@ use Rattle.message.proofs.DeliveryLaws.{none-sent}
 use Rattle.informs.proofs.entry_if.Statement.{statement}
 use Rattle.informs.proofs.entry_if.Tie as tie
 
-returns : tie.Need-returns
-returns c = rw (c .before .before .before .before .if1 .taken) (c .before .before .deliver-entry .ensures)
-
-returns-2 : tie.Need-returns-2
-returns-2 c = rw (c .if1 .left) none-sent
-
 pub entry-if-spec : {M : Type 1} → statement M
-entry-if-spec = tie.close (tie.spec (λ c κs. search needs) (λ c. search needs) returns returns-2)
+entry-if-spec = tie.close (tie.spec (λ c κs. search needs) (λ c. search needs)
+    (λ c. rw (c .before .before .before .before .if1 .taken) (c .before .before .deliver-entry .ensures))
+    (λ c. rw (c .if1 .left) none-sent))

@@ -10,12 +10,11 @@ use Rattle.machine.proofs.WordTables.{place-first}
 use Rattle.informs.proofs.level_named.Statement.{statement}
 use Rattle.informs.proofs.level_named.Tie as tie
 
-cast-result : tie.Need-cast-result
-cast-result c = let h = place-bound (text "off|fatal|error|warn|info|debug|trace|all") _ (c .place-of .ensures) in search needs
-
 returns : tie.Need-returns
 unfolding levelOf levelText wordOf
 returns c = c .place-of .ensures ∙ place-first (text "off|fatal|error|warn|info|debug|trace|all") _
 
 pub level-named-spec : {M : Type 1} → statement M
-level-named-spec = tie.close (tie.spec (λ c. search needs) (λ c κs. search needs) cast-result returns)
+level-named-spec = tie.close (tie.spec (λ c. search needs) (λ c κs. search needs)
+    (λ c. let h = place-bound (text "off|fatal|error|warn|info|debug|trace|all") _ (c .place-of .ensures) in search needs)
+    returns)

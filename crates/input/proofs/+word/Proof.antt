@@ -32,8 +32,7 @@ pub +word-spec : {M : Type 1} → statement M
     word-lts.spec (len-before-reads.Asked, len-before-reads.Learnt, behind-reads.Asked, behind-reads.Learnt, word-below t, word.Post) (word-at t) word.Post
     (λ c κs. search needs)
     (λ c.
-    let s = c .before .before .before .before .args .line .now in
-    let n = c .before .len-before .result in
+    let s = c .before .before .before .before .args .line .now in let n = c .before .len-before .result in
     sym (length-take-le n s (before-within 32 s n (c .before .len-before .ensures))))
     (λ c.
     let s = c .before .before .before .before .args .line .now in

@@ -16,21 +16,15 @@ Inv-loop line n₀ i₀ n i = (i ≤ length line) × (n ≤ i) × (n + spaces (d
 abbrev μ-loop : tie.MeasureT-loop
 μ-loop line n₀ i₀ n i = length line - i
 
-loop-holds : tie.Need-loop-holds Inv-loop μ-loop
-loop-holds c = omega arith
-
 loop-again : tie.Need-loop-again Inv-loop μ-loop
 loop-again c =
-    let l = c .before .before .before in
-    let s = l .before .args .line .now in
+    let l = c .before .before .before in let s = l .before .args .line .now in
     ⊎-elim
     (λ w. omega (arith, space.space-here s (l .loop .i) (omega arith) (w .0 .taken)))
     (λ w. omega (arith, space.space-not s (l .loop .i) (omega arith) (w .0 .left)))
     (c .if1 .came)
 
-returns : tie.Need-returns Inv-loop μ-loop
-returns c = omega (arith, space.space-over (c .before .before .args .line .now) (c .before .loop .i) (c .loop-test .left))
-
 pub count-spaces-spec : {M : Type 1} → statement M
 count-spaces-spec =
-    tie.close (tie.spec Inv-loop μ-loop loop-holds (λ c. search needs) (λ c. search needs) (λ c. search needs) (λ c. search needs) loop-again returns)
+    tie.close (tie.spec Inv-loop μ-loop (λ c. omega arith) (λ c. search needs) (λ c. search needs) (λ c. search needs) (λ c. search needs) loop-again
+    (λ c. omega (arith, space.space-over (c .before .before .args .line .now) (c .before .loop .i) (c .loop-test .left))))

@@ -6,8 +6,6 @@ use Rattle.layout.proofs.TakenLaws.{byte-there, byte-past}
 use Rattle.layout.proofs.byte_at.Statement.{statement}
 use Rattle.layout.proofs.byte_at.Tie as tie
 
-returns-2 : tie.Need-returns-2
-returns-2 c = byte-past (now (c .before .args .s)) (c .before .args .c .at) (omega arith)
-
 pub byte-at-spec : {M : Type 1} → statement M
-byte-at-spec = tie.close (tie.spec (λ c. search needs) (λ c. search needs) (λ c. search (byte-there, needs)) returns-2)
+byte-at-spec = tie.close (tie.spec (λ c. search needs) (λ c. search needs) (λ c. search (byte-there, needs))
+    (λ c. byte-past (now (c .before .args .s)) (c .before .args .c .at) (omega arith)))

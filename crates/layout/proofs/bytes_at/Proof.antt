@@ -6,11 +6,7 @@ use Rattle.layout.proofs.TakenLaws.{bytes-there, bytes-short, bytes-pas
 use Rattle.layout.proofs.bytes_at.Statement.{statement}
 use Rattle.layout.proofs.bytes_at.Tie as tie
 
-returns-3 : tie.Need-returns-3
-returns-3 c = (rw (c .if3 .taken) (bytes-past (now (c .before .before .args .s)) (c .before .before .args .c .at) (omega arith)), omega arith)
-
-returns-4 : tie.Need-returns-4
-returns-4 c = (bytes-short (now (c .before .before .args .s)) (c .before .before .args .c .at) (c .before .before .args .n) (omega arith), tt)
-
 pub bytes-at-spec : {M : Type 1} → statement M
-bytes-at-spec = tie.close (tie.spec (λ c. search needs) (λ c. search (bytes-there, needs)) (λ c. search (bytes-short, needs)) returns-3 returns-4)
+bytes-at-spec = tie.close (tie.spec (λ c. search needs) (λ c. search (bytes-there, needs)) (λ c. search (bytes-short, needs))
+    (λ c. (rw (c .if3 .taken) (bytes-past (now (c .before .before .args .s)) (c .before .before .args .c .at) (omega arith)), omega arith))
+    (λ c. (bytes-short (now (c .before .before .args .s)) (c .before .before .args .c .at) (c .before .before .args .n) (omega arith), tt)))

@@ -19,13 +19,12 @@ abbrev μ-loop : tie.MeasureT-loop
 
 returns : tie.Need-returns Inv-loop μ-loop
 returns c =
-    let c1 = c .before .before .before .before .before in
+    let c1a = c .before .before .before in let c1 = c1a .before .before in
     rw (c .no-sensor .ensures, fault (c1 .loop .inv) (omega arith) (rw (not-true (c .before .before .before .choice-at .result .taken) (c .before .if1 .taken)) at (c .before .before .before .choice-at .ensures)))
 
 loop-again : tie.Need-loop-again Inv-loop μ-loop
 loop-again c =
-    let c1 = c .before .before .before .before in
-    let c2 = c1 .before .before in
+    let c1 = c .before .before .before .before in let c2 = c1 .before .before in
     more (c2 .loop .inv) (omega arith) (omega arith) (rw (not-false (c1 .choice-at .result .taken) (c .before .before .if1 .left)) at (c1 .choice-at .ensures))
 
 pub choices-at-spec : {M : Type 1} → statement M

@@ -13,16 +13,12 @@ returns c = rw (sym (four-twice (c .before .before .before .before .args .kind) 
 
 returns-2 : tie.Need-returns-2
 returns-2 c =
-    let c1 = c .before .before .before .before in
-    let c2 = c1 .before .before in
-    let c3 = c2 .before .before in
+    let c1 = c .before .before .before .before in let c2 = c1 .before .before in let c3 = c2 .before .before in
     rw (sym (four-twice (c3 .args .kind) (behind (now (c3 .args .s)) (c3 .args .c))), told (limitsOf (now (c3 .args .s))) (c1 .nominal .given .1) (c2 .two-at .ensures), told (limitsOf (now (c3 .args .s))) (c .enum-told2 .given .1) (c .before .before .two-at2 .ensures))
 
 returns-3 : tie.Need-returns-3
 returns-3 c =
-    let c1 = c .before .before .before .before .before in
-    let c2 = c1 .before .before in
-    let c3 = c2 .before .before in
+    let c1a = c .before .before .before in let c1 = c1a .before .before in let c2 = c1 .before .before in let c3 = c2 .before .before in
     rw (sym (four-twice (c3 .args .kind) (behind (now (c3 .args .s)) (c3 .args .c))), told (limitsOf (now (c3 .args .s))) (c1 .nominal .given .1) (c2 .two-at .ensures), told (limitsOf (now (c3 .args .s))) (c .before .warn .given .1) (c .before .before .before .two-at2 .ensures))
 
 pub four-at-spec : {M : Type 1} → statement M

@@ -8,12 +8,12 @@ use Rattle.layout.proofs.limited.Tie as tie
 
 returns : tie.Need-returns
 returns c =
-    let c1 = c .before .before .before .before .before in
+    let c1a = c .before .before .before in let c1 = c1a .before .before in
     rw (c .no-sensor .ensures, told (limitsOf (now (c1 .args .s))) (c .before .enum-told .given .1) (c .before .before .before .limits-at .ensures))
 
 returns-2 : tie.Need-returns-2
 returns-2 c =
-    let c1 = c .before .before .before .before .before in
+    let c1a = c .before .before .before in let c1 = c1a .before .before in
     rw (told (limitsOf (now (c1 .args .s))) (c .before .limits .given .1) (c .before .before .before .limits-at .ensures))
 
 pub limited-spec : {M : Type 1} → statement M

@@ -15,15 +15,12 @@ returns c = rw (c .no-sensor .ensures, told (byteOf _) (c .before .enum-told .gi
 
 returns-2 : tie.Need-returns-2
 returns-2 c =
-    let c1 = c .before .before .before in
-    let c2 = c1 .before .before in
-    let c3 = c2 .before .before in
+    let c1 = c .before .before .before in let c2 = c1 .before .before in let c3 = c2 .before .before in
     c .choices-at .ensures ∙ ap (takenOptions (c3 .args .sensor)) (options-there _ (told (byteOf (c3 .args .s .now)) (c1 .count .given .1) (c2 .byte-at .ensures)) (omega arith))
 
 returns-3 : tie.Need-returns-3
 returns-3 c =
-    let c1 = c .before .before .before in
-    let c2 = c1 .before .before in
+    let c1 = c .before .before .before in let c2 = c1 .before .before in
     rw (c .no-sensor2 .ensures, options-many _ (told (byteOf _) (c1 .count .given .1) (c2 .byte-at .ensures)) (omega arith))
 
 pub options-at-spec : {M : Type 1} → statement M

@@ -18,7 +18,7 @@ abbrev μ-loop : tie.MeasureT-loop
 μ-loop s count sheet sensors₀ next₀ k₀ sensors next k = count - k
 
 returns : tie.Need-returns Inv-loop μ-loop
-returns c = let c1 = c .before .before .before .before .before in rw (c .no-sheet .ensures, fault (c1 .loop .inv) (omega arith) (rw (not-true (c .before .before .before .sensor-at .result .taken) (c .before .if1 .taken)) at (c .before .before .before .sensor-at .ensures)))
+returns c = rw (c .no-sheet .ensures, fault (let c1a = c .before .before .before in let c1 = c1a .before .before in c1 .loop .inv) (omega arith) (rw (not-true (c .before .before .before .sensor-at .result .taken) (c .before .if1 .taken)) at (c .before .before .before .sensor-at .ensures)))
 
 loop-again : tie.Need-loop-again Inv-loop μ-loop
 loop-again c = let c1 = c .before .before .before .before in let c2 = c1 .before .before in more (c2 .loop .inv) (omega arith) (omega arith) (rw (not-false (c1 .sensor-at .result .taken) (c .before .before .if1 .left)) at (c1 .sensor-at .ensures))

@@ -14,17 +14,13 @@ returns c = rw (told (numberOf (now (c .before .before .before .before .args .s)
 returns-2 : tie.Need-returns-2
 unfolding twoAt
 returns-2 c =
-    let c1 = c .before .before .before .before in
-    let c2 = c1 .before .before in
-    let c3 = c2 .before .before in
+    let c1 = c .before .before .before .before in let c2 = c1 .before .before in let c3 = c2 .before .before in
     rw (told (numberOf (now (c3 .args .s))) (c1 .least .given .1) (c2 .limit-at .ensures), told (numberOf (now (c3 .args .s))) (c .enum-told2 .given .1) (c .before .before .limit-at2 .ensures))
 
 returns-3 : tie.Need-returns-3
 unfolding twoAt
 returns-3 c =
-    let c1 = c .before .before .before .before .before in
-    let c2 = c1 .before .before in
-    let c3 = c2 .before .before in
+    let c1a = c .before .before .before in let c1 = c1a .before .before in let c2 = c1 .before .before in let c3 = c2 .before .before in
     rw (told (numberOf (now (c3 .args .s))) (c1 .least .given .1) (c2 .limit-at .ensures), told (numberOf (now (c3 .args .s))) (c .before .most .given .1) (c .before .before .before .limit-at2 .ensures))
 
 pub two-at-spec : {M : Type 1} → statement M

@@ -16,12 +16,10 @@ Inv-loop line k p₀ left₀ p left = (p ≤ length line) × (getD (words (drop 
 abbrev μ-loop : tie.MeasureT-loop
 μ-loop line k p₀ left₀ p left = left
 
-loop-holds : tie.Need-loop-holds Inv-loop μ-loop
-loop-holds c = W.from-start (c .before .before .args .line .now) (c .word-len .result) (c .before .before .args .k) (c .word-len .ensures)
-
-loop-again : tie.Need-loop-again Inv-loop μ-loop
-loop-again c = (c .next-word .ensures .inside, W.skipped _ _ (c .next-word .result) (c .next-word .ensures) (c .before .before .loop .left) (omega arith) ∙ c .before .before .loop .inv .1)
-
 pub argument-word-spec : {M : Type 1} → statement M
 argument-word-spec =
-    tie.close (tie.spec Inv-loop μ-loop (λ c κs. search needs) loop-holds (λ c κs. search needs) (λ c. search needs) (λ c. search needs) loop-again (λ c κs. search needs) (λ c. search (W.found, needs)))
+    tie.close (tie.spec Inv-loop μ-loop (λ c κs. search needs)
+    (λ c. W.from-start (c .before .before .args .line .now) (c .word-len .result) (c .before .before .args .k) (c .word-len .ensures))
+    (λ c κs. search needs) (λ c. search needs) (λ c. search needs)
+    (λ c. (c .next-word .ensures .inside, W.skipped _ _ (c .next-word .result) (c .next-word .ensures) (c .before .before .loop .left) (omega arith) ∙ c .before .before .loop .inv .1))
+    (λ c κs. search needs) (λ c. search (W.found, needs)))

@@ -16,16 +16,12 @@ abbrev μ-loop : tie.MeasureT-loop
 
 returns-2 : tie.Need-returns-2 Inv-loop μ-loop
 returns-2 c =
-    let c1 = c .before .before .before .before in
-    let c2 = c1 .before .before in
-    let c3 = c2 .before .before .before in
+    let c1 = c .before .before .before .before in let c2 = c1 .before .before in let c3 = c2 .before .before .before in
     W.bad (c3 .args .line .now) (c2 .loop .p) (c2 .loop .n) (c2 .loop .inv) (c1 .next-word .result) (c1 .next-word .ensures) (c .before .before .before .if1 .left) (sym (c .before .valid .ensures) ∙ not-true _ (c .if2 .taken))
 
 loop-again : tie.Need-loop-again Inv-loop μ-loop
 loop-again c =
-    let c1 = c .before .before .before .before in
-    let c2 = c1 .before .before in
-    let c3 = c2 .before .before .before in
+    let c1 = c .before .before .before .before in let c2 = c1 .before .before in let c3 = c2 .before .before .before in
     W.more (c3 .args .line .now) (c2 .loop .p) (c2 .loop .n) (c2 .loop .inv) (c1 .next-word .result) (c1 .next-word .ensures) (c .before .before .before .if1 .left) (sym (c .before .valid .ensures) ∙ not-false _ (c .if2 .left))
 
 pub arguments-spec : {M : Type 1} → statement M

@@ -13,13 +13,12 @@ use Rattle.line.proofs.head.Tie as tie
 
 returns-2 : tie.Need-returns-2
 returns-2 c =
-    let c1 = c .before .before .before .before .before in
+    let c1a = c .before .before .before in let c1 = c1a .before .before in
     H.not-kind (c1 .args .w .now) (c1 .args .count) (c .before .before .before .if1 .left) (sym (c .before .kind-byte .ensures) ∙ not-true _ (c .if2 .taken))
 
 returns-3 : tie.Need-returns-3
 returns-3 c =
-    let c1 = c .before .before .before .before .before in
-    let c2 = c1 .before .before in
+    let c1a = c .before .before .before in let c1 = c1a .before .before in let c2 = c1 .before .before in
     c .named .ensures ∙ ap (λ (l : List ℕ). namedRead (getD (c2 .args .w .now) 0 0) l (c2 .args .count)) (to-end (c2 .args .w .now) 1) ∙ H.a-kind (c2 .args .w .now) (c2 .args .count) (c1 .if1 .left) (sym (c .before .before .before .kind-byte .ensures) ∙ not-false _ (c .before .before .if2 .left))
 
 pub head-spec : {M : Type 1} → statement M

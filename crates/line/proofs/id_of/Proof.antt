@@ -9,8 +9,7 @@ use Rattle.line.proofs.id_of.Tie as tie
 
 returns-3 : tie.Need-returns-3
 returns-3 c =
-    let c1 = c .before .before .before .before in
-    let c2 = c1 .before .before in
+    let c1 = c .before .before .before .before in let c2 = c1 .before .before in
     c .id-from .ensures ∙ ap (idFrom 0) (to-end (c2 .args .t .now) 1) ∙ sym (an-id (c2 .args .t .now) (c1 .if1 .left) (c .before .before .if2 .left))
 
 pub id-of-spec : {M : Type 1} → statement M

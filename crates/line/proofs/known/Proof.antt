@@ -5,15 +5,9 @@ use Rattle.line.specs.Line as spec
 use Rattle.line.proofs.known.Statement.{statement}
 use Rattle.line.proofs.known.Tie as tie
 
-returns : tie.Need-returns
-returns c = ap spec.known (sym (c .enum-told .given .1) ∙ c .before .before .escape .ensures)
-
-returns-2 : tie.Need-returns-2
-returns-2 c = ap spec.known (sym (c .enum-told2 .given .1) ∙ c .before .before .escape .ensures)
-
-returns-3 : tie.Need-returns-3
-returns-3 c = ap spec.known (sym (c .enum-told3 .given .1) ∙ c .before .before .escape .ensures)
-
 pub known-spec : {M : Type 1} → statement M
 known-spec =
-    tie.close (tie.spec (λ c κs. search needs) (λ c. search needs) (λ c. search needs) (λ c. search needs) returns returns-2 returns-3)
+    tie.close (tie.spec (λ c κs. search needs) (λ c. search needs) (λ c. search needs) (λ c. search needs)
+    (λ c. ap spec.known (sym (c .enum-told .given .1) ∙ c .before .before .escape .ensures))
+    (λ c. ap spec.known (sym (c .enum-told2 .given .1) ∙ c .before .before .escape .ensures))
+    (λ c. ap spec.known (sym (c .enum-told3 .given .1) ∙ c .before .before .escape .ensures)))

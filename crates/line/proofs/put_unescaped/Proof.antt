@@ -18,25 +18,19 @@ abbrev μ-loop : tie.MeasureT-loop
 
 loop-again : tie.Need-loop-again Inv-loop μ-loop
 loop-again c =
-    let c1 = c .before .before .before .before in
-    let c2 = c1 .before .before .before in
+    let c1 = c .before .before .before .before in let c2 = c1 .before .before .before in
     U.put-more (c2 .loop .inv) (U.raw _ (c2 .loop .i) (omega arith) (c1 .if1 .taken)) (omega arith) (c .before .before .put-byte .ensures)
 
 loop-again-2 : tie.Need-loop-again-2 Inv-loop μ-loop
 loop-again-2 c =
-    let c1 = c .before .before in
-    let c2 = c1 .before .before .before in
-    let c3 = c2 .before .before in
-    let c4 = c3 .before .before .before in
-    let c5 = c4 .before .before .before in
-    let c6 = c5 .before .before .before in
+    let c1 = c .before .before in let c2 = c1 .before .before .before in
+    let c3 = c2 .before .before in let c4 = c3 .before .before .before in
+    let c5 = c4 .before .before .before in let c6 = c5 .before .before .before in
     U.put-more (c5 .loop .inv) (U.byte (c6 .args .w .now) (c5 .loop .i) (omega arith) (c4 .if1 .left) (c2 .x .given .0 .0) (sym (c3 .escape .ensures) ∙ c2 .x .given .1)) (omega arith) (c1 .put-byte2 .ensures)
 
 loop-again-3 : tie.Need-loop-again-3 Inv-loop μ-loop
 loop-again-3 c =
-    let c1 = c .before .before .before .before in
-    let c2 = c1 .before .before .before in
-    let c3 = c2 .before .before .before in
+    let c1 = c .before .before .before .before in let c2 = c1 .before .before .before in let c3 = c2 .before .before .before in
     U.put-nothing (c2 .loop .inv) (U.skip (c3 .args .w .now) (c2 .loop .i) (omega arith) (c1 .if1 .left) (U.none-meant _ _ (c .before .escape .ensures) (c .match .keys2))) (omega arith)
 
 pub put-unescaped-spec : {M : Type 1} → statement M

@@ -11,8 +11,5 @@ returns c =
     let c0 = c .before .before in
     said (c0 .put-arg .ensures) (ap arg (c0 .before .prefix .ensures))
 
-same-length : tie.Need-same-length
-same-length c = same (returns c)
-
 pub put-arg-prefix-spec : {M : Type 1} → statement M
-put-arg-prefix-spec = tie.close (tie.spec (λ c κs. search needs) (λ c κs. search needs) same-length returns)
+put-arg-prefix-spec = tie.close (tie.spec (λ c κs. search needs) (λ c κs. search needs) (λ c. same (returns c)) returns)

@@ -16,27 +16,6 @@ Inv-loop out₀ at s p₀ i₀ out p i = (i ≤ length s) × (length out ≡ len
 abbrev μ-loop : tie.MeasureT-loop
 μ-loop out₀ at s p₀ i₀ out p i = length s - i
 
-loop-holds : tie.Need-loop-holds Inv-loop μ-loop
-loop-holds c = (search needs, refl, record { is = refl })
-
-shared-slice-read-put-escape : tie.Need-shared-slice-read-put-escape Inv-loop μ-loop
-shared-slice-read-put-escape c = omega arith
-
-add-i : tie.Need-add-i Inv-loop μ-loop
-add-i c = omega arith
-
-loop-less : tie.Need-loop-less Inv-loop μ-loop
-loop-less c = omega arith
-
-loop-again : tie.Need-loop-again Inv-loop μ-loop
-loop-again c = (omega arith, omega arith, search (more, arith))
-
-same-length : tie.Need-same-length Inv-loop μ-loop
-same-length c = omega arith
-
-returns : tie.Need-returns Inv-loop μ-loop
-returns c = search (empty, needs)
-
 returns-2 : tie.Need-returns-2 Inv-loop μ-loop
 returns-2 c =
     let l = c .before .before in
@@ -44,4 +23,4 @@ returns-2 c =
 
 pub put-escaped-spec : {M : Type 1} → statement M
 put-escaped-spec =
-    tie.close (tie.spec Inv-loop μ-loop loop-holds shared-slice-read-put-escape (λ c κs. search needs) add-i loop-less loop-again (λ c κs. search needs) same-length returns (λ c. search needs) returns-2)
+    tie.close (tie.spec Inv-loop μ-loop (λ c. (search needs, refl, record { is = refl })) (λ c. omega arith) (λ c κs. search needs) (λ c. omega arith) (λ c. omega arith) (λ c. (omega arith, omega arith, search (more, arith))) (λ c κs. search needs) (λ c. omega arith) (λ c. search (empty, needs)) (λ c. search needs) returns-2)

@@ -22,9 +22,6 @@ loop-holds : tie.Need-loop-holds Inv-loop μ-loop
 unfolding tabulate
 loop-holds c = (omega arith, refl)
 
-loop-again : tie.Need-loop-again Inv-loop μ-loop
-loop-again c = (omega arith, rw (c .before .loop .inv .1) (filled-one (λ j. j) (replicate 32 0) (c .before .loop .j) (omega arith)))
-
 returns : tie.Need-returns Inv-loop μ-loop
 returns c =
     let e : c .before .loop .j ≡ min (c .before .before .before .args .count) 32 = omega (arith, c .before .before .sensors-in .ensures) in
@@ -32,4 +29,6 @@ returns c =
 
 pub every-place-spec : {M : Type 1} → statement M
 every-place-spec =
-    tie.close (tie.spec Inv-loop μ-loop (λ c κs. search needs) loop-holds (λ c. search needs) (λ c. search needs) (λ c. search needs) (λ c. search needs) loop-again returns)
+    tie.close (tie.spec Inv-loop μ-loop (λ c κs. search needs) loop-holds (λ c. search needs) (λ c. search needs) (λ c. search needs) (λ c. search needs)
+    (λ c. (omega arith, rw (c .before .loop .inv .1) (filled-one (λ j. j) (replicate 32 0) (c .before .loop .j) (omega arith))))
+    returns)

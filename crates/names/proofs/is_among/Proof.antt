@@ -16,16 +16,10 @@ Inv-loop places j found₀ k₀ found k = Found (eqb j) places found k
 abbrev μ-loop : tie.MeasureT-loop
 μ-loop places j found₀ k₀ found k = length places - k
 
-loop-holds : tie.Need-loop-holds Inv-loop μ-loop
-loop-holds c = found-none _ _
-
-loop-again : tie.Need-loop-again Inv-loop μ-loop
-loop-again c = found-on (c .before .before .loop .inv) 0 _ (omega arith) refl
-
 returns : tie.Need-returns Inv-loop μ-loop
 unfolding has
 returns c = found-all (c .before .loop .inv) (omega arith)
 
 pub is-among-spec : {M : Type 1} → statement M
 is-among-spec =
-    tie.close (tie.spec Inv-loop μ-loop loop-holds (λ c. search needs) (λ c. search needs) (λ c. search needs) loop-again returns)
+    tie.close (tie.spec Inv-loop μ-loop (λ c. found-none _ _) (λ c. search needs) (λ c. search needs) (λ c. search needs) (λ c. found-on (c .before .before .loop .inv) 0 _ (omega arith) refl) returns)

@@ -18,9 +18,7 @@ abbrev μ-loop : tie.MeasureT-loop
 
 loop-again : tie.Need-loop-again Inv-loop μ-loop
 loop-again c =
-    let l = c .before .before .before in
-    let t = l .before .before .args .t .now in
-    let most = l .before .before .args .most in
+    let l = c .before .before .before in let t = l .before .before .args .t .now in let most = l .before .before .args .most in
     (omega arith, omega arith, ap (λ (n : ℕ). min (valueFrom n (drop (l .loop .i + 1) t)) most) (c .with-digit .ensures) ∙ value-more most t (l .loop .i) (l .loop .m) (omega arith) ∙ l .loop .inv .2)
 
 returns : tie.Need-returns Inv-loop μ-loop

@@ -6,14 +6,12 @@ use Rattle.numbers.proofs.parts_of.Tie as tie
 
 mul-without-digits : tie.Need-mul-without-digits
 mul-without-digits c =
-    let p = c .before .before .before in
-    let s = p .before .before .before in
+    let p = c .before .before .before in let s = p .before .before .before in
     record { fits = number.capped-fits (s .args .base) _ (s .pre) (c .digits-after2 .ensures) }
 
 returns : tie.Need-returns
 returns c =
-    let d = c .before .before in
-    let s = d .before .before .before in
+    let d = c .before .before in let s = d .before .before .before in
     number.parts-held (s .before .before .args .base) (s .before .before .args .t .now) (s .len-before .ensures) (d .before .before .prefix .ensures) (d .before .behind .ensures) (d .digits-after .ensures) (c .before .digits-after2 .ensures) (c .without-digits .ensures)
 
 pub parts-of-spec : {M : Type 1} → statement M

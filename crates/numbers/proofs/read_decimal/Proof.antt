@@ -10,8 +10,7 @@ use Rattle.numbers.proofs.read_decimal.Tie as tie
 
 returns : tie.Need-returns
 returns c =
-    let w = c .before .before .before .before in
-    let d = w .before .before in
+    let w = c .before .before .before .before in let d = w .before .before in
     number.read-again number.decimals (d .digits-value .ensures) (w .put-decimal .ensures) (omega arith) (c .before .prefix .ensures) (sym (lt-ltb (d .digits-value .result) (2 ^ 64) (omega arith))) (c .taken .ensures)
 
 pub read-decimal-spec : {M : Type 1} → statement M

@@ -9,8 +9,7 @@ use Rattle.numbers.proofs.read_whole_difference.Tie as tie
 
 returns : tie.Need-returns
 returns c =
-    let w = c .before .before .before .before in
-    let d = w .before .before in
+    let w = c .before .before .before .before in let d = w .before .before in
     number.read-again number.whole-differences (ap (λ (n : ℕ). n * 1000000) (d .digits-value .ensures)) (w .put-whole-difference .ensures) (omega arith) (c .before .prefix .ensures) (number.whole-range (d .digits-value .result)) (c .taken .ensures)
 
 pub read-whole-difference-spec : {M : Type 1} → statement M

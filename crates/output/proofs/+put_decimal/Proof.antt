@@ -34,6 +34,6 @@ pub +put-decimal-spec : {M : Type 1} → statement M
     (λ c κs. search needs)
     (λ c. search needs)
     (λ c.
-    let s = c .before .before .before .before .before .before .before .before .before .before in
+    let sa = c .before .before .before .before in let sb = sa .before .before .before in let s = sb .before .before .before in
     said (then (c .before .before .before .before .before .before .put-decimal .ensures) (c .before .before .put-digit2 .ensures))
     (sym (decimal-step (s .args .n) (omega arith) (s .fits .n .fits))))

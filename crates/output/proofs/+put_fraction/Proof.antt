@@ -43,6 +43,6 @@ pub +put-fraction-spec : {M : Type 1} → statement M
     (λ c κs. (omega arith, (mod-lt _ (omega arith), omega arith)))
     (λ c. search needs)
     (λ c.
-    let s = c .before .before .before .before .before .before .before .before .before .before .before .args in
+    let q = c .before .before .before .before in let ra = q .before .before .before in let r = ra .before .before in let s = r .before .before .args in
     said (then (c .before .before .before .before .before .before .before .put-digit .ensures) (c .before .before .put-fraction .ensures))
-    (sym (fraction-more (s .base) (s .left) (s .f) (c .before .before .before .before .before .before .before .before .before .if1 .left) (c .before .before .before .before .if2 .left))))
+    (sym (fraction-more (s .base) (s .left) (s .f) (r .if1 .left) (q .if2 .left))))

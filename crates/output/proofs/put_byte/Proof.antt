@@ -14,12 +14,6 @@ use Rattle.output.proofs.put_byte.Tie as tie
 full : (xs : List ℕ) (at b : ℕ) → length xs ≤ at → output xs (length xs) ≡ put (output xs at) b
 full xs at b h = let e : min (at + 1) (length xs) ≡ length xs = omega arith in rw (set-out xs at b, e)
 
-returns : tie.Need-returns
-returns c = record { is = ap (output _) (omega arith) }
-
-returns-2 : tie.Need-returns-2
-returns-2 c =
-    record { is = full (c .before .args .out .now) (c .before .args .at) (c .before .args .b) (omega arith) }
-
 pub put-byte-spec : {M : Type 1} → statement M
-put-byte-spec = tie.close (tie.spec (λ c. search needs) (λ c. search needs) (λ c. search needs) returns returns-2)
+put-byte-spec = tie.close (tie.spec (λ c. search needs) (λ c. search needs) (λ c. search needs) (λ c. record { is = ap (output _) (omega arith) })
+    (λ c. record { is = full (c .before .args .out .now) (c .before .args .at) (c .before .args .b) (omega arith) }))

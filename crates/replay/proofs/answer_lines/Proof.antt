@@ -18,21 +18,14 @@ abbrev μ-loop : tie.MeasureT-loop
 μ-loop s out₀ answers₀ state₀ at₀ from₀ end₀ out answers state at from end = length s - end
 
 -- the next line ends within the text
-ends : (c : tie.After-len-before2 Inv-loop μ-loop) → c .before .before .before .before .before .before .before .before .before .before .before .before .before .before .loop .end + 1 + c .len-before2 .result ≤ length (c .before .before .before .before .before .before .before .before .before .before .before .before .before .before .before .before .before .before .before .args .s .now)
-ends c = before-fits 10 (c .before .before .before .before .before .before .before .before .before .before .before .before .before .before .before .before .before .before .before .args .s .now) (c .before .before .before .before .before .before .before .before .before .before .before .before .before .before .loop .end + 1) (c .len-before2 .result) (omega arith) (c .len-before2 .ensures)
-
-loop-holds : tie.Need-loop-holds Inv-loop μ-loop
-loop-holds c = omega (arith, run-le (other 10) (c .before .before .before .before .args .s .now))
+ends : (c : tie.After-len-before2 Inv-loop μ-loop) → let c1 = c .before .before .before .before in let c2 = c1 .before .before .before .before in let c3 = c2 .before .before .before in let c4 = c3 .before .before .before in let c5 = c4 .before .before .before in let c6 = c5 .before .before in c4 .loop .end + 1 + c .len-before2 .result ≤ length (c6 .args .s .now)
+ends c = let c1 = c .before .before .before .before in let c2 = c1 .before .before .before .before in let c3 = c2 .before .before .before in let c4 = c3 .before .before .before in let c5 = c4 .before .before .before in let c6 = c5 .before .before in before-fits 10 (c6 .args .s .now) (c4 .loop .end + 1) (c .len-before2 .result) (omega arith) (c .len-before2 .ensures)
 
 add-end : tie.Need-add-end Inv-loop μ-loop
-add-end c = omega (arith, ends c, c .before .before .before .before .before .before .before .before .before .before .before .before .before .before .before .before .before .before .before .good)
-
-loop-less : tie.Need-loop-less Inv-loop μ-loop
-loop-less c = omega (arith, ends c)
-
-loop-again : tie.Need-loop-again Inv-loop μ-loop
-loop-again c = omega (arith, ends c)
+add-end c = let c1 = c .before .before .before .before in let c2 = c1 .before .before .before .before in let c3 = c2 .before .before .before .before in let c4 = c3 .before .before .before .before in let c5 = c4 .before .before .before in omega (arith, ends c, c5 .good)
 
 pub answer-lines-spec : {M : Type 1} → statement M
 answer-lines-spec =
-    tie.close (tie.spec Inv-loop μ-loop (λ c κs. search needs) loop-holds (λ c. search needs) (λ c. search needs) (λ c. search needs) (λ c κs. search needs) (λ c. search needs) (λ c. search needs) (λ c. search needs) (λ c. search needs) (λ c. search needs) (λ c. search needs) (λ c. search needs) (λ c κs. search needs) add-end loop-less loop-again (λ c κs. search needs) (λ c κs. search needs) (λ c. search needs) (λ c. search needs) (λ c. search needs))
+    tie.close (tie.spec Inv-loop μ-loop (λ c κs. search needs)
+    (λ c. omega (arith, run-le (other 10) (c .before .before .before .before .args .s .now)))
+    (λ c. search needs) (λ c. search needs) (λ c. search needs) (λ c κs. search needs) (λ c. search needs) (λ c. search needs) (λ c. search needs) (λ c. search needs) (λ c. search needs) (λ c. search needs) (λ c. search needs) (λ c κs. search needs) add-end (λ c. omega (arith, ends c)) (λ c. omega (arith, ends c)) (λ c κs. search needs) (λ c κs. search needs) (λ c. search needs) (λ c. search needs) (λ c. search needs))

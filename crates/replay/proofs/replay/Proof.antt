@@ -21,21 +21,16 @@ abbrev μ-loop : tie.MeasureT-loop
 some : (c : tie.Then1 Inv-loop μ-loop) → 0 < c .before .before .loop .turns
 some c = let turn = c .before .before .loop in turn-left (ltb (turn .more .window .from) (turn .more .window .to)) (turn .turns) (c .if1 .taken)
 
-slice-aggregate-answer-lines : tie.Need-slice-aggregate-answer-lines Inv-loop μ-loop
-slice-aggregate-answer-lines c = sym (length-take-le _ (c .before .before .before .loop .buf) (omega arith))
-
-sub-turns : tie.Need-sub-turns Inv-loop μ-loop
-sub-turns c = omega (arith, some (c .before .before .before .before .before .before .before .before .before .before .before .before .before .before .before))
-
-loop-less : tie.Need-loop-less Inv-loop μ-loop
-loop-less c = omega (arith, some (c .before .before .before .before .before .before .before .before .before .before .before .before .before .before .before))
-
 loop-again : tie.Need-loop-again Inv-loop μ-loop
-loop-again c = search (needs, c .before .before .before .before .before .before .before .before .before .before .before .before .before .before .before .before .before .loop .inv)
-
-slice-aggregate-answer-last : tie.Need-slice-aggregate-answer-last Inv-loop μ-loop
-slice-aggregate-answer-last c = sym (length-take-le _ (c .before .before .before .before .loop .buf) (omega arith))
+loop-again c = let c1 = c .before .before .before .before in let c2 = c1 .before .before .before .before in let c3 = c2 .before .before .before in let c4 = c3 .before .before .before in let c5 = c4 .before .before .before in search (needs, c5 .loop .inv)
 
 pub replay-spec : {M : Type 1} → statement M
 replay-spec =
-    tie.close (tie.spec Inv-loop μ-loop (λ c κs. search needs) (λ c. search needs) (λ c. search needs) slice-aggregate-answer-lines (λ c κs. search needs) (λ c. search needs) (λ c. search needs) (λ c. search needs) (λ c. search needs) (λ c κs. search needs) sub-turns loop-less loop-again (λ c κs. search needs) (λ c. search needs) (λ c. search needs) (λ c. search needs) (λ c. search needs) (λ c. search needs) slice-aggregate-answer-last (λ c κs. search needs) (λ c. search needs) (λ c. search needs) (λ c. search needs) (λ c. search needs))
+    tie.close (tie.spec Inv-loop μ-loop (λ c κs. search needs) (λ c. search needs) (λ c. search needs)
+    (λ c. sym (length-take-le _ (c .before .before .before .loop .buf) (omega arith)))
+    (λ c κs. search needs) (λ c. search needs) (λ c. search needs) (λ c. search needs) (λ c. search needs) (λ c κs. search needs)
+    (λ c. let c1 = c .before .before .before .before in let c2 = c1 .before .before .before .before in let c3 = c2 .before .before .before .before in let c4 = c3 .before .before .before in omega (arith, some c4))
+    (λ c. let c1 = c .before .before .before .before in let c2 = c1 .before .before .before .before in let c3 = c2 .before .before .before .before in let c4 = c3 .before .before .before in omega (arith, some c4))
+    loop-again (λ c κs. search needs) (λ c. search needs) (λ c. search needs) (λ c. search needs) (λ c. search needs) (λ c. search needs)
+    (λ c. sym (length-take-le _ (c .before .before .before .before .loop .buf) (omega arith)))
+    (λ c κs. search needs) (λ c. search needs) (λ c. search needs) (λ c. search needs) (λ c. search needs))

@@ -10,9 +10,7 @@ use Rattle.replies.proofs.client_list.Tie as tie
 
 returns : tie.Need-returns
 returns c =
-    let c1 = c .before .before in
-    let c2 = c1 .before .before .before .before in
-    let c3 = c2 .before .before .before .before in
+    let c1 = c .before .before in let c2 = c1 .before .before .before .before in let c3 = c2 .before .before .before .before in
     let start = c3 in
     counted _ (c2 .tell-clients .ensures .0) (c1 .deliver-count .ensures) (c2 .tell-clients .ensures .1 ∙ sym (length-map (addressesBelow (start .args .clients) 8) (clientInform (start .args .id))))
 

@@ -7,15 +7,15 @@ use Rattle.replies.proofs.help.Tie as tie
 
 returns : tie.Need-returns
 returns c =
-    let reply = c .before .before in
-    let told = reply .before .before .before .before in
+    let reply = c .before .before in let told = reply .before .before .before .before in
     rw (told .before .before .if1 .taken) (counted _ (told .tell-request .ensures) (reply .deliver-count .ensures) refl)
 
 returns-2 : tie.Need-returns-2
 returns-2 c =
-    let reply = c .before .before in
+    let c1 = c .before .before in
+    let reply = c1 in
     let count = reply .before in
-    let told = count .before .before .before .before .before in
+    let tolda = count .before .before .before in let told = tolda .before .before in
     rw (told .before .before .if1 .left) (counted _ (told .tell-requests .ensures) (reply .deliver-count2 .ensures) (count .word-count .ensures))
 
 pub help-spec : {M : Type 1} → statement M

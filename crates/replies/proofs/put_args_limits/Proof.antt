@@ -15,16 +15,13 @@ returns c = rw (eq-eqb _ _ (c .if1 .taken)) blank
 returns-2 : tie.Need-returns-2
 unfolding limitNumbers
 returns-2 c =
-    let c1 = c .before .before .before .before in
-    let c2 = c1 .before .before in
+    let c1 = c .before .before .before .before in let c2 = c1 .before .before in
     rw (ne-eqb _ _ (c2 .if1 .left), eq-eqb _ _ (c .if2 .taken)) (c1 .put-args-range .ensures)
 
 returns-3 : tie.Need-returns-3
 unfolding limitNumbers
 returns-3 c =
-    let c1 = c .before .before .before .before in
-    let c2 = c1 .before .before .before .before in
-    let c3 = c2 .before .before in
+    let c1 = c .before .before .before .before in let c2 = c1 .before .before .before .before in let c3 = c2 .before .before in
     rw (ne-eqb _ _ (c3 .if1 .left), ne-eqb _ _ (c1 .if2 .left)) (args-then (_ ∷ _ ∷ []) (_ ∷ _ ∷ []) (c2 .put-args-range .ensures) (c .before .before .put-args-range2 .ensures))
 
 pub put-args-limits-spec : {M : Type 1} → statement M

@@ -26,9 +26,7 @@ loop-holds c = search needs
 loop-again : tie.Need-loop-again Inv-loop μ-loop
 loop-again c =
     let c1 = c .before .before in
-    let c2 = c1 .before .before .before .before .before in
-    let c3 = c2 .before .before in
-    let c4 = c3 .before .before .before in
+    let c2a = c1 .before .before .before in let c2 = c2a .before .before in let c3 = c2 .before .before in let c4 = c3 .before .before .before in
     (omega arith, next-arg (optionOf (c4 .args .sensor)) _ (c3 .loop .inv .1) (rw (c2 .option-at .ensures) at (c1 .put-arg-prefix .ensures)))
 
 returns : tie.Need-returns Inv-loop μ-loop

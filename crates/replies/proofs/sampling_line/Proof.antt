@@ -11,11 +11,8 @@ use Rattle.replies.proofs.sampling_line.Tie as tie
 returns : tie.Need-returns
 unfolding samplingReply
 returns c =
-    let c0 = c .before .before in
-    let c1 = c0 .before .before .before .before in
-    let c2 = c1 .before .before .before .before in
-    let c3 = c2 .before .before .before .before in
-    let s = c3 .before .before .before .before .before .args in
+    let c0 = c .before .before in let c1 = c0 .before .before .before .before in
+    let c2 = c1 .before .before .before .before in let c3 = c2 .before .before .before .before in let s = c3 .before .before .before .before .before .args in
     said (then (c3 .put-ok .ensures) (then (c2 .put-arg .ensures) (args-ended (strategyText (strategyKind (s .strategy)) ∷ parameterTexts (s .sensor) (s .strategy)) (10 ∷ []) (c1 .put-args-strategy .ensures) (c0 .put-byte .ensures))))
     (ok-line (asking _ _) (_ ∷ _ ∷ parameterTexts (s .sensor) (s .strategy)) (10 ∷ []))
 

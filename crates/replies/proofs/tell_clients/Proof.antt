@@ -14,9 +14,6 @@ Inv-loop out₀ client id clients told₀ c₀ out told c = Telling client id cl
 abbrev μ-loop : tie.MeasureT-loop
 μ-loop out₀ client id clients told₀ c₀ out told c = 8 - c
 
-tell-client-requires : tie.Need-tell-client-requires Inv-loop μ-loop
-tell-client-requires c κs = let h = few (c .before .before .before .loop .inv) in search needs
-
 pub tell-clients-spec : {M : Type 1} → statement M
 tell-clients-spec =
-    tie.close (tie.spec Inv-loop μ-loop (λ c. telling _ _ _ _) (λ c. search needs) (λ c. search needs) tell-client-requires (λ c. search needs) (λ c. search needs) (λ c. search (telling-on, needs)) (λ c. kept (c .before .loop .inv .sent)) (λ c. told (c .before .loop .inv) (omega arith)))
+    tie.close (tie.spec Inv-loop μ-loop (λ c. telling _ _ _ _) (λ c. search needs) (λ c. search needs) (λ c κs. let h = few (c .before .before .before .loop .inv) in search needs) (λ c. search needs) (λ c. search needs) (λ c. search (telling-on, needs)) (λ c. kept (c .before .loop .inv .sent)) (λ c. told (c .before .loop .inv) (omega arith)))

@@ -14,13 +14,9 @@ Inv-loop out₀ client id count at₀ k₀ t8 out at k = Helping client id count
 abbrev μ-loop : tie.MeasureT-loop
 μ-loop out₀ client id count at₀ k₀ t8 out at k = count - k
 
-loop-holds : tie.Need-loop-holds Inv-loop μ-loop
-loop-holds c = helping _ _ _ _ (c .word-count .ensures)
-
 loop-again : tie.Need-loop-again Inv-loop μ-loop
 loop-again c =
-    let told = c .before .before in
-    let word = told .before in
+    let told = c .before .before in let word = told .before in
     helping-on (word .before .before .before .before .loop .inv) (omega arith) (word .word-of .ensures) (told .tell-request .ensures)
 
 returns : tie.Need-returns Inv-loop μ-loop
@@ -28,4 +24,4 @@ returns c = helped (c .before .loop .inv) (omega arith)
 
 pub tell-requests-spec : {M : Type 1} → statement M
 tell-requests-spec =
-    tie.close (tie.spec Inv-loop μ-loop (λ c. search needs) (λ c κs. search needs) loop-holds (λ c. search needs) (λ c κs. search needs) (λ c κs. search needs) (λ c. search needs) (λ c. search needs) loop-again (λ c. kept (returns c)) returns)
+    tie.close (tie.spec Inv-loop μ-loop (λ c. search needs) (λ c κs. search needs) (λ c. helping _ _ _ _ (c .word-count .ensures)) (λ c. search needs) (λ c κs. search needs) (λ c κs. search needs) (λ c. search needs) (λ c. search needs) loop-again (λ c. kept (returns c)) returns)

@@ -21,36 +21,40 @@ looked-up c =
 
 returns : tie.Need-returns
 returns c =
-    let s = c .before .before .before .before .before .before .before .before .before .before in
+    let c1 = c .before .before .before .before in let c2 = c1 .before .before in let c3 = c2 .before .before .before .before in
+    let s = c3 in
     let m = messageOf (s .args .line .now) in
-    as-given (unknown-effect (s .args .state) (s .args .client) m (unknown-is (requestNamed (m .name)) (sym (looked-up (c .before .before .before .before .before .before)) ∙ c .before .before .before .before .enum-told .given .1))) (c .before .before .refuse .ensures)
-
-request-row-requires : tie.Need-request-row-requires
-request-row-requires c κs = let s = c .before .before .before .before .before .before .before .before in (s .pre .read, few-sensors (s .args .state) (s .pre .in-range))
+    as-given (unknown-effect (s .args .state) (s .args .client) m (unknown-is (requestNamed (m .name)) (sym (looked-up c2) ∙ c1 .enum-told .given .1))) (c .before .before .refuse .ensures)
 
 refuse-requires-2 : tie.Need-refuse-requires-2
 refuse-requires-2 c κs =
-    let s = c .before .before .before .before .before .before .before .before .before .before .before in
+    let c1 = c .before .before .before .before in let c2 = c1 .before .before .before .before in let c3 = c2 .before .before .before in
+    let s = c3 in
     let row = c .before .before .request-row .ensures in
     (s .pre .read, rw row (request-number (s .args .state .sheet) _ (messageOf (s .args .line .now)) (λ z. c .before .if1 .taken (row ∙ z))))
 
 returns-2 : tie.Need-returns-2
 returns-2 c =
-    let s = c .before .before .before .before .before .before .before .before .before .before .before .before .before .before in
+    let c1 = c .before .before .before .before in let c2 = c1 .before in let c3 = c2 .before .before .before in let c4 = c3 .before .before in let c5 = c4 .before .before .before .before in
+    let s = c5 in
     let m = messageOf (s .args .line .now) in
-    as-given (declined-effect (s .args .state) (s .args .client) m _ (known-is (requestNamed (m .name)) _ (sym (looked-up (c .before .before .before .before .before .before .before .before .before .before)) ∙ c .before .before .before .before .before .before .before .before .request .given .1)) (c .before .before .before .before .before .request-row .ensures) (c .before .before .before .before .if1 .taken)) (c .before .before .refuse2 .ensures)
+    as-given (declined-effect (s .args .state) (s .args .client) m _ (known-is (requestNamed (m .name)) _ (sym (looked-up c4) ∙ c3 .request .given .1)) (c2 .request-row .ensures) (c1 .if1 .taken)) (c .before .before .refuse2 .ensures)
 
 carry-out-requires : tie.Need-carry-out-requires
 carry-out-requires c κs =
-    let s = c .before .before .before .before .before .before .before .before .before .before .before in
+    let c1 = c .before .before .before .before in let c2 = c1 .before .before .before .before in let c3 = c2 .before .before .before in
+    let s = c3 in
     record { heard = s .pre; fits = arguments-fit (s .args .state .sheet) _ (messageOf (s .args .line .now)) (sym (c .before .before .request-row .ensures) ∙ c .before .if1 .left) }
 
 returns-3 : tie.Need-returns-3
 returns-3 c =
-    let s = c .before .before .before .before .before .before .before .before .before .before .before .before .before .before in
+    let c1 = c .before .before .before .before in let c2 = c1 .before in let c3 = c2 .before .before .before in let c4 = c3 .before .before in let c5 = c4 .before .before .before .before in
+    let s = c5 in
     let m = messageOf (s .args .line .now) in
-    as-given (accepted-effect (s .args .state) (s .args .client) m _ (known-is (requestNamed (m .name)) _ (sym (looked-up (c .before .before .before .before .before .before .before .before .before .before)) ∙ c .before .before .before .before .before .before .before .before .request .given .1)) (sym (c .before .before .before .before .before .request-row .ensures) ∙ c .before .before .before .before .if1 .left)) (c .before .before .carry-out .ensures)
+    as-given (accepted-effect (s .args .state) (s .args .client) m _ (known-is (requestNamed (m .name)) _ (sym (looked-up c4) ∙ c3 .request .given .1)) (sym (c2 .request-row .ensures) ∙ c1 .if1 .left)) (c .before .before .carry-out .ensures)
 
 pub answer-request-spec : {M : Type 1} → statement M
 answer-request-spec =
-    tie.close (tie.spec (λ c κs. search needs) (λ c κs. search needs) (λ c. search needs) (λ c. search needs) (λ c κs. search needs) (λ c. search needs) returns request-row-requires refuse-requires-2 (λ c. search needs) returns-2 carry-out-requires (λ c. search needs) returns-3)
+    tie.close (tie.spec (λ c κs. search needs) (λ c κs. search needs) (λ c. search needs) (λ c. search needs) (λ c κs. search needs) (λ c. search needs) returns
+    (λ c κs. let c1 = c .before .before .before .before in let c2 = c1 .before .before .before .before in let s = c2 in (s .pre .read, few-sensors (s .args .state) (s .pre .in-range)))
+    refuse-requires-2 (λ c. search needs) returns-2 carry-out-requires (λ c. search needs) returns-3)

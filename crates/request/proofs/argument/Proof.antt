@@ -5,10 +5,10 @@ use Rattle.request.proofs.argument.Statement.{statement}
 use Rattle.request.proofs.argument.Tie as tie
 
 returns : tie.Need-returns
-returns c = copied-never (c .before .before .before .before .before .before .before .before .args .line .now) (c .before .before .before .before .before .before .before .before .args .k) (c .before .before .before .before .before .before .before .before .args .into .now) (c .before .before .before .before .before .before .before .before .pre) (c .before .before .before .before .argument .ensures) (c .enum-told .given .1)
+returns c = let c1 = c .before .before .before .before in let c2 = c1 .before .before .before .before in copied-never (c2 .args .line .now) (c2 .args .k) (c2 .args .into .now) (c2 .pre) (c1 .argument .ensures) (c .enum-told .given .1)
 
 returns-2 : tie.Need-returns-2
-returns-2 c = copied-argument (c .before .before .before .before .before .before .before .before .before .args .line .now) (c .before .before .before .before .before .before .before .before .before .args .k) (c .before .before .before .before .before .before .before .before .before .args .into .now) (c .before .before .before .before .before .before .before .before .before .pre) (c .before .before .before .before .before .argument .ensures) (c .before .n .given .1)
+returns-2 c = let c1 = c .before in let c2 = c1 .before .before .before .before in let c3 = c2 .before .before .before .before in copied-argument (c3 .args .line .now) (c3 .args .k) (c3 .args .into .now) (c3 .pre) (c2 .argument .ensures) (c1 .n .given .1)
 
 pub argument-spec : {M : Type 1} → statement M
 argument-spec =

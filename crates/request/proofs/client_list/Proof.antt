@@ -11,8 +11,9 @@ use Rattle.request.proofs.client_list.Tie as tie
 returns : tie.Need-returns
 unfolding answer addresses
 returns c =
-    let s = c .before .before .before .before .before .before .before .before .before in
-    tells (s .args .line .now) (s .args .head) (s .pre) (c .before .before .before .before .before .name .ensures) (s .args .state) (s .args .client) (λ id. map (clientInform id) (addresses (s .args .state))) (c .before .before .before .client-list .ensures) refl (c .answered .ensures)
+    let c1 = c .before .before .before in let c2 = c1 .before .before in let c3 = c2 .before .before .before .before in
+    let s = c3 in
+    tells (s .args .line .now) (s .args .head) (s .pre) (c2 .name .ensures) (s .args .state) (s .args .client) (λ id. map (clientInform id) (addresses (s .args .state))) (c1 .client-list .ensures) refl (c .answered .ensures)
 
 pub client-list-spec : {M : Type 1} → statement M
 client-list-spec =

@@ -4,8 +4,5 @@ use Rattle.request.proofs.RefusalLaws.{refused-with}
 use Rattle.request.proofs.deliver_refusal.Statement.{statement}
 use Rattle.request.proofs.deliver_refusal.Tie as tie
 
-returns : tie.Need-returns
-returns c = search (refused-with, needs)
-
 pub deliver-refusal-spec : {M : Type 1} → statement M
-deliver-refusal-spec = tie.close (tie.spec (λ c. search needs) (λ c κs. search needs) (λ c κs. search needs) (λ c. search needs) (λ c. search needs) (λ c κs. search needs) (λ c κs. search needs) (λ c. search needs) returns)
+deliver-refusal-spec = tie.close (tie.spec (λ c. search needs) (λ c κs. search needs) (λ c κs. search needs) (λ c. search needs) (λ c. search needs) (λ c κs. search needs) (λ c κs. search needs) (λ c. search needs) (λ c. search (refused-with, needs)))

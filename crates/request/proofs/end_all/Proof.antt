@@ -6,8 +6,9 @@ use Rattle.request.proofs.end_all.Tie as tie
 
 returns : tie.Need-returns
 returns c =
-    let s = c .before .before .before .before .before .before .before .before .before .before .before .before .before .before .before .before .before .before .before .before in
-    ends (s .args .line .now) (s .args .head) (s .pre) (c .before .before .before .before .before .before .before .before .before .before .before .before .before .before .before .name .ensures) (s .args .state) (s .args .client) (s .args .why .now) (c .before .before .before .before .before .before .before .before .before .before .before .before .deliver-one .ensures) (c .before .before .before .before .before .before .before .inform-others .ensures) (c .before .before .before .before .blank-client .ensures) (c .before .before .no-subscription .ensures) (c .answered .ensures)
+    let c1 = c .before .before .before .before in let c2 = c1 .before .before .before in let c3 = c2 .before .before .before in let c4 = c3 .before .before in let c5 = c4 .before .before .before in let c6 = c5 .before .before .before in let c7 = c6 .before .before in
+    let s = c7 in
+    ends (s .args .line .now) (s .args .head) (s .pre) (c5 .name .ensures) (s .args .state) (s .args .client) (s .args .why .now) (c4 .deliver-one .ensures) (c2 .inform-others .ensures) (c1 .blank-client .ensures) (c .before .before .no-subscription .ensures) (c .answered .ensures)
 
 pub end-all-spec : {M : Type 1} → statement M
 end-all-spec =

@@ -12,18 +12,17 @@ use Rattle.request.proofs.TellLaws.{tells, help-names}
 use Rattle.request.proofs.help.Statement.{statement}
 use Rattle.request.proofs.help.Tie as tie
 
-argument-requires : tie.Need-argument-requires
-argument-requires c κs = (short (c .before .before .before .args .line .now) (c .before .before .before .args .head) (c .before .before .before .pre), refl)
-
-slice-aggregate-help : tie.Need-slice-aggregate-help
-slice-aggregate-help c = sym (length-take-le _ _ (omega (arith, c .before .before .before .before .before .argument .kept .1 .1 .0, c .before .before .before .before .before .argument .ensures .1)))
-
 returns : tie.Need-returns
 unfolding answer
 returns c =
-    let s = c .before .before .before .before .before .before .before .before .before .before .before .before .before in
-    tells (s .args .line .now) (s .args .head) (s .pre) (c .before .before .before .before .before .before .before .name .ensures) (s .args .state) (s .args .client) (λ id. map (helpInform id) (helpNames (messageOf (s .args .line .now)))) (c .before .before .before .help .ensures) (ap (map (helpInform (s .args .head .id))) (help-names (s .args .line .now) (s .args .head) (s .pre) (c .before .before .before .before .before .before .before .before .before .argument .ensures .0))) (c .answered .ensures)
+    let c1 = c .before .before .before in let c2 = c1 .before .before .before .before in let c3 = c2 .before .before in let c4 = c3 .before .before .before .before in
+    let s = c4 in
+    tells (s .args .line .now) (s .args .head) (s .pre) (c2 .name .ensures) (s .args .state) (s .args .client) (λ id. map (helpInform id) (helpNames (messageOf (s .args .line .now)))) (c1 .help .ensures) (ap (map (helpInform (s .args .head .id))) (help-names (s .args .line .now) (s .args .head) (s .pre) (c3 .argument .ensures .0))) (c .answered .ensures)
 
 pub help-spec : {M : Type 1} → statement M
 help-spec =
-    tie.close (tie.spec (λ c. search needs) argument-requires (λ c κs. search needs) (λ c. search needs) slice-aggregate-help (λ c κs. search needs) (λ c κs. search needs) (λ c. search needs) returns)
+    tie.close (tie.spec (λ c. search needs)
+    (λ c κs. (short (c .before .before .before .args .line .now) (c .before .before .before .args .head) (c .before .before .before .pre), refl))
+    (λ c κs. search needs) (λ c. search needs)
+    (λ c. let c1 = c .before .before .before in let c2 = c1 .before .before in sym (length-take-le _ _ (omega (arith, c2 .argument .kept .1 .1 .0, c2 .argument .ensures .1))))
+    (λ c κs. search needs) (λ c κs. search needs) (λ c. search needs) returns)

@@ -7,35 +7,16 @@ use borrow.Author.Needs.{needs}
 use Rattle.request.proofs.level_asked.Statement.{statement}
 use Rattle.request.proofs.level_asked.Tie as tie
 
-returns : tie.Need-returns
-returns c = level-kept (c .before .before .before .args .line .now) (c .before .before .before .args .head) (c .before .before .before .pre) (c .before .before .before .args .level) (c .if1 .taken)
-
-slice-aggregate-argument : tie.Need-slice-aggregate-argument
-slice-aggregate-argument c = search needs
-
-argument-requires : tie.Need-argument-requires
-argument-requires c κs = (short (c .before .before .before .before .args .line .now) (c .before .before .before .before .args .head) (c .before .before .before .before .pre), refl)
-
 array-share-prefix-text : tie.Need-array-share-prefix-text
 array-share-prefix-text c = search needs
 
-slice-aggregate-level-named : tie.Need-slice-aggregate-level-named
-slice-aggregate-level-named c = sym (length-take-le _ _ (array-share-prefix-text (c .before)))
-
-level-named-requires : tie.Need-level-named-requires
-level-named-requires c κs = search needs
-
 returns-2 : tie.Need-returns-2
-returns-2 c = level-named (c .before .before .before .before .before .before .before .before .args .line .now) (c .before .before .before .before .before .before .before .before .args .head) (c .before .before .before .before .before .before .before .before .pre) (c .before .before .before .argument .ensures .0) (c .before .before .before .before .before .if1 .left) (c .before .before .before .before .before .before .before .before .args .level) (c .level-named .ensures)
+returns-2 c = let c1 = c .before .before .before in let c2 = c1 .before .before in let c3 = c2 .before .before .before in level-named (c3 .args .line .now) (c3 .args .head) (c3 .pre) (c1 .argument .ensures .0) (c2 .if1 .left) (c3 .args .level) (c .level-named .ensures)
 
 pub level-asked-spec : {M : Type 1} → statement M
 level-asked-spec =
-    tie.close
-    (tie.spec
-    returns
-    slice-aggregate-argument
-    argument-requires
-    array-share-prefix-text
-    slice-aggregate-level-named
-    level-named-requires
-    returns-2)
+    tie.close (tie.spec
+    (λ c. level-kept (c .before .before .before .args .line .now) (c .before .before .before .args .head) (c .before .before .before .pre) (c .before .before .before .args .level) (c .if1 .taken))
+    (λ c. search needs)
+    (λ c κs. (short (c .before .before .before .before .args .line .now) (c .before .before .before .before .args .head) (c .before .before .before .before .pre), refl))
+    array-share-prefix-text (λ c. sym (length-take-le _ _ (array-share-prefix-text (c .before)))) (λ c κs. search needs) returns-2)

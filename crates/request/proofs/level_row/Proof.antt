@@ -5,11 +5,7 @@ use borrow.Author.Needs.{needs}
 use Rattle.request.proofs.level_row.Statement.{statement}
 use Rattle.request.proofs.level_row.Tie as tie
 
-returns : tie.Need-returns
-returns c = level-known (messageOf (c .before .before .before .args .line .now)) (c .before .level-asked .ensures) (c .if1 .taken)
-
-returns-2 : tie.Need-returns-2
-returns-2 c = level-unknown (messageOf (c .before .before .before .args .line .now)) (c .before .level-asked .ensures) (c .if1 .left)
-
 pub level-row-spec : {M : Type 1} → statement M
-level-row-spec = tie.close (tie.spec (λ c κs. search needs) returns returns-2)
+level-row-spec = tie.close (tie.spec (λ c κs. search needs)
+    (λ c. level-known (messageOf (c .before .before .before .args .line .now)) (c .before .level-asked .ensures) (c .if1 .taken))
+    (λ c. level-unknown (messageOf (c .before .before .before .args .line .now)) (c .before .level-asked .ensures) (c .if1 .left)))

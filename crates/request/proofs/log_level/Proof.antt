@@ -12,8 +12,9 @@ use Rattle.request.proofs.log_level.Tie as tie
 returns : tie.Need-returns
 unfolding answer
 returns c =
-    let s = c .before .before .before .before .before .before .before .before .before in
-    rw (← c .before .before .before .before .before .before .level-asked .ensures) (replies (s .args .line .now) (s .args .head) (s .pre) (c .before .before .before .before .before .name .ensures) (withLevel (s .args .state) (c .before .before .before .before .before .before .level-asked .result)) (s .args .client) (text "ok" ∷ levelText (c .before .before .before .before .before .before .level-asked .result) ∷ []) (c .before .before .before .deliver-level .ensures) (c .answered .ensures))
+    let c1 = c .before .before .before in let c2 = c1 .before .before in let c3 = c2 .before in let c4 = c3 .before .before .before in
+    let s = c4 in
+    rw (← c3 .level-asked .ensures) (replies (s .args .line .now) (s .args .head) (s .pre) (c2 .name .ensures) (withLevel (s .args .state) (c3 .level-asked .result)) (s .args .client) (text "ok" ∷ levelText (c3 .level-asked .result) ∷ []) (c1 .deliver-level .ensures) (c .answered .ensures))
 
 pub log-level-spec : {M : Type 1} → statement M
 log-level-spec =

@@ -9,12 +9,13 @@ use Rattle.request.proofs.refuse.Tie as tie
 
 returns : tie.Need-returns
 returns c =
-    let start = c .before .before .before .before .before .before .before in
+    let c1 = c .before .before .before .before in let c2 = c1 .before .before .before in
+    let start = c2 in
     let read = start .pre .0 in
     record {
       number = refl;
       state = refl;
-      sent = refused-for (messageOf (start .args .line .now)) (start .args .number) (c .before .before .before .before .name .ensures ∙ name-is _ _ read) (id-is _ _ read) (c .before .before .deliver-refusal .ensures);
+      sent = refused-for (messageOf (start .args .line .now)) (start .args .number) (c1 .name .ensures ∙ name-is _ _ read) (id-is _ _ read) (c .before .before .deliver-refusal .ensures);
     }
 
 pub refuse-spec : {M : Type 1} → statement M

@@ -29,30 +29,30 @@ passed c =
 
 returns : tie.Need-returns
 returns c =
-    let s = c .before .before .before .before .before .before .before .before .before in
-    let d = declines (s .args .state) (s .args .client) (s .args .line .now) (s .args .out .now) (c .before .before .before .in-range .ensures) (ap not (c .before .before .before .before .before .is-connected .ensures)) (c .before .before .before .before .client-rows .ensures) (c .before .before .rows .ensures) (c .before .if1 .taken) in
+    let c1 = c .before .before .before .before in let c2 = c1 .before in let c3 = c2 .before .before .before .before in
+    let s = c3 in
+    let d = declines (s .args .state) (s .args .client) (s .args .line .now) (s .args .out .now) (c .before .before .before .in-range .ensures) (ap not (c2 .is-connected .ensures)) (c1 .client-rows .ensures) (c .before .before .rows .ensures) (c .before .if1 .taken) in
     refused (s .args .state) (asks s) (s .args .out .now) (d .0) (c .before .if1 .taken) (d .1) (c .silent .ensures)
 
 returns-2 : tie.Need-returns-2
 returns-2 c =
-    let s = c .before .before .before .before .before .before .before .before .before .before .before in
-    let p = passed (c .before .before .before .before) (c .before .before .before .if1 .left) in
+    let c1 = c .before .before .before .before in let c2 = c1 .before .before .before .before in let c3 = c2 .before .before .before in
+    let s = c3 in
+    let p = passed c1 (c .before .before .before .if1 .left) in
     answered-line (s .args .state) (s .args .client) (s .args .line .now) (s .args .out .now) (p .0) (p .2)
     (as-given (blank-effect (s .args .state) (s .args .client) (s .args .line .now) (sym (c .before .before .is-blank .ensures) ∙ c .before .if2 .taken)) (nothing-given (s .args .state) (s .args .out .now) (c .answered .ensures)))
 
-cast-answer-line : tie.Need-cast-answer-line
-cast-answer-line c = let p = passed (c .before .before .before) (c .before .before .if1 .left) in omega (arith, p .3)
-
-answer-line-requires : tie.Need-answer-line-requires
-answer-line-requires c κs = let p = passed (c .before .before .before .before) (c .before .before .before .if1 .left) in (p .1, p .3)
-
 returns-3 : tie.Need-returns-3
 returns-3 c =
-    let s = c .before .before .before .before .before .before .before .before .before .before .before .before .before .before in
-    let p = passed (c .before .before .before .before .before .before .before) (c .before .before .before .before .before .before .if1 .left) in
+    let c1 = c .before .before .before .before in let c2 = c1 .before in let c3 = c2 .before in let c4 = c3 .before in let c5 = c4 .before .before .before .before in let c6 = c5 .before .before .before in
+    let s = c6 in
+    let p = passed c4 (c3 .if1 .left) in
     answered-line (s .args .state) (s .args .client) (s .args .line .now) (s .args .out .now) (p .0) (p .2)
-    (as-given (written-effect (s .args .state) (s .args .client) (s .args .line .now) (sym (c .before .before .before .before .before .is-blank .ensures) ∙ c .before .before .before .before .if2 .left)) (c .before .before .answer-line .ensures))
+    (as-given (written-effect (s .args .state) (s .args .client) (s .args .line .now) (sym (c2 .is-blank .ensures) ∙ c1 .if2 .left)) (c .before .before .answer-line .ensures))
 
 pub respond-spec : {M : Type 1} → statement M
 respond-spec =
-    tie.close (tie.spec (λ c κs. search needs) (λ c κs. search needs) (λ c κs. search needs) (λ c κs. search needs) (λ c κs. search needs) returns (λ c κs. search needs) (λ c κs. search needs) returns-2 cast-answer-line answer-line-requires (λ c. search needs) returns-3)
+    tie.close (tie.spec (λ c κs. search needs) (λ c κs. search needs) (λ c κs. search needs) (λ c κs. search needs) (λ c κs. search needs) returns (λ c κs. search needs) (λ c κs. search needs) returns-2
+    (λ c. let p = passed (c .before .before .before) (c .before .before .if1 .left) in omega (arith, p .3))
+    (λ c κs. let p = passed (c .before .before .before .before) (c .before .before .before .if1 .left) in (p .1, p .3))
+    (λ c. search needs) returns-3)

@@ -6,7 +6,7 @@ use Rattle.request.proofs.restart.Tie as tie
 
 returns : tie.Need-returns
 unfolding answer
-returns c = rw (c .before .before .before .before .before .before .start-level .ensures) at (c .before .before .end-all .ensures)
+returns c = let c1 = c .before .before in let c2 = c1 .before .before .before .before in rw (c2 .start-level .ensures) at (c1 .end-all .ensures)
 
 pub restart-spec : {M : Type 1} → statement M
 restart-spec = tie.close (tie.spec (λ c κs. search needs) (λ c κs. search needs) (λ c. search needs) returns)

@@ -8,28 +8,19 @@ use Rattle.request.proofs.TellLaws.{Asks, few-sensors, asks, list-long,
 use Rattle.request.proofs.sensor_value.Statement.{statement}
 use Rattle.request.proofs.sensor_value.Tie as tie
 
-sensors-told-requires : tie.Need-sensors-told-requires
-sensors-told-requires c κs = (c .before .before .before .pre .heard .read, few-sensors (c .before .before .before .args .state) (c .before .before .before .pre .heard .in-range))
-
 asked : (c : tie.After-sensors-told) → Asks (c .before .before .before .before .args .state .sheet) (messageOf (c .before .before .before .before .args .line .now)) (c .sensors-told .result)
 unfolding argumentsDeclined
 asked c = asks (c .before .before .before .before .args .state) (messageOf (c .before .before .before .before .args .line .now)) (c .before .before .before .before .pre .heard .in-range) (c .before .before .before .before .pre .fits) (c .sensors-told .ensures)
 
-array-share-prefix-places : tie.Need-array-share-prefix-places
-array-share-prefix-places c = asked (c .before .before) .inside
-
-slice-aggregate-tell-values : tie.Need-slice-aggregate-tell-values
-slice-aggregate-tell-values c = list-long (asked (c .before .before .before))
-
-tell-values-requires : tie.Need-tell-values-requires
-tell-values-requires c κs = asked (c .before .before .before) .below
-
 returns : tie.Need-returns
 unfolding answer
 returns c =
-    let s = c .before .before .before .before .before .before .before .before .before .before .before .before .before .before .before .before in
-    tells-asked (s .args .line .now) (s .args .head) (s .pre .heard .read) (c .before .before .before .before .before .name .ensures) (s .args .state) (s .args .client) (λ id. valueInform id (s .args .state) (s .args .state .sheet)) (asked (c .before .before .before .before .before .before .before .before .before .before .before .before)) (c .before .before .before .before .before .before .before .before .tell-values .ensures) (c .before .before .before .deliver-count .ensures) (c .answered .ensures)
+    let c1 = c .before .before .before in let c2 = c1 .before .before in let c3 = c2 .before .before .before in let c4 = c3 .before .before .before .before in let c5 = c4 .before .before .before .before in
+    let s = c5 in
+    tells-asked (s .args .line .now) (s .args .head) (s .pre .heard .read) (c2 .name .ensures) (s .args .state) (s .args .client) (λ id. valueInform id (s .args .state) (s .args .state .sheet)) (asked c4) (c3 .tell-values .ensures) (c1 .deliver-count .ensures) (c .answered .ensures)
 
 pub sensor-value-spec : {M : Type 1} → statement M
 sensor-value-spec =
-    tie.close (tie.spec sensors-told-requires array-share-prefix-places slice-aggregate-tell-values tell-values-requires (λ c κs. search needs) (λ c κs. search needs) (λ c κs. search needs) (λ c. search needs) returns)
+    tie.close (tie.spec
+    (λ c κs. (c .before .before .before .pre .heard .read, few-sensors (c .before .before .before .args .state) (c .before .before .before .pre .heard .in-range)))
+    (λ c. asked (c .before .before) .inside) (λ c. list-long (asked (c .before .before .before))) (λ c κs. asked (c .before .before .before) .below) (λ c κs. search needs) (λ c κs. search needs) (λ c κs. search needs) (λ c. search needs) returns)

@@ -6,12 +6,9 @@ use borrow.Author.Needs.{needs}
 use Rattle.request.proofs.tell_set.Statement.{statement}
 use Rattle.request.proofs.tell_set.Tie as tie
 
-returns : tie.Need-returns
-returns c = as-sent none-sent (sym (cond-true _ _ _ (sym (c .before .is-none .ensures) ∙ c .if1 .taken)))
-
-returns-2 : tie.Need-returns-2
-returns-2 c = as-sent (c .before .before .tell-reports .ensures) (sym (cond-false _ _ _ (sym (c .before .before .before .before .before .is-none .ensures) ∙ c .before .before .before .before .if1 .left)))
-
 pub tell-set-spec : {M : Type 1} → statement M
 tell-set-spec =
-    tie.close (tie.spec (λ c κs. search needs) returns (λ c κs. search needs) (λ c. search needs) returns-2)
+    tie.close (tie.spec (λ c κs. search needs)
+    (λ c. as-sent none-sent (sym (cond-true _ _ _ (sym (c .before .is-none .ensures) ∙ c .if1 .taken))))
+    (λ c κs. search needs) (λ c. search needs)
+    (λ c. let c1 = c .before .before .before .before in let c2 = c1 .before in as-sent (c .before .before .tell-reports .ensures) (sym (cond-false _ _ _ (sym (c2 .is-none .ensures) ∙ c1 .if1 .left)))))

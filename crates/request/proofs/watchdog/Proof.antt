@@ -10,8 +10,9 @@ use Rattle.request.proofs.watchdog.Tie as tie
 returns : tie.Need-returns
 unfolding answer
 returns c =
-    let s = c .before .before .before .before .before .before .before .before .before in
-    replies (s .args .line .now) (s .args .head) (s .pre) (c .before .before .before .before .before .before .name .ensures) (s .args .state) (s .args .client) (text "ok" ∷ []) (c .before .before .before .deliver-one .ensures) (c .answered .ensures)
+    let c1 = c .before .before .before in let c2 = c1 .before .before .before in let c3 = c2 .before .before .before in
+    let s = c3 in
+    replies (s .args .line .now) (s .args .head) (s .pre) (c2 .name .ensures) (s .args .state) (s .args .client) (text "ok" ∷ []) (c1 .deliver-one .ensures) (c .answered .ensures)
 
 pub watchdog-spec : {M : Type 1} → statement M
 watchdog-spec =

@@ -3,8 +3,5 @@ use borrow.Author.Needs.{needs}
 use Rattle.rules.proofs.alike_texts.Statement.{statement}
 use Rattle.rules.proofs.alike_texts.Tie as tie
 
-returns : tie.Need-returns
-returns c = rw (c .same .ensures)
-
 pub alike-texts-spec : {M : Type 1} → statement M
-alike-texts-spec = tie.close (tie.spec (λ c κs. search needs) returns)
+alike-texts-spec = tie.close (tie.spec (λ c κs. search needs) (λ c. rw (c .same .ensures)))

@@ -29,8 +29,8 @@ loop-holds c = (omega arith, refl)
 
 loop-again : tie.Need-loop-again Inv-loop μ-loop
 loop-again c =
-    let turn = c .before .before .before .before .loop in
-    (omega arith, rw (turn .inv .1, c .choice-key .ensures) (filled-one (keyAt (c .before .before .before .before .before .args .t1)) (replicate 32 0) (turn .k) (omega arith)))
+    let c1 = c .before .before .before .before in let c2 = c1 .before in let turn = c1 .loop in
+    (omega arith, rw (turn .inv .1, c .choice-key .ensures) (filled-one (keyAt (c2 .args .t1)) (replicate 32 0) (turn .k) (omega arith)))
 
 returns : tie.Need-returns Inv-loop μ-loop
 unfolding choiceKeys

@@ -7,9 +7,6 @@ use Rattle.rules.proofs.FillLaws.{counted}
 use Rattle.rules.proofs.choice_ok.Statement.{statement}
 use Rattle.rules.proofs.choice_ok.Tie as tie
 
-text-ok-requires : tie.Need-text-ok-requires
-text-ok-requires c κs = counted 16 (search needs) (omega arith) (c .before .before .before .before .pre)
-
 returns : tie.Need-returns
 unfolding choiceOk
 returns c = rw (lt-ltb _ _ (c .before .before .if1 .taken)) (c .text-ok .ensures)
@@ -20,4 +17,6 @@ returns-2 c = rw (le-ltb _ _ (c .before .if1 .left)) (c .choice-none .ensures)
 
 pub choice-ok-spec : {M : Type 1} → statement M
 choice-ok-spec =
-    tie.close (tie.spec (λ c. search needs) text-ok-requires returns (λ c κs. search needs) returns-2)
+    tie.close (tie.spec (λ c. search needs)
+    (λ c κs. counted 16 (search needs) (omega arith) (c .before .before .before .before .pre))
+    returns (λ c κs. search needs) returns-2)

@@ -24,9 +24,7 @@ loop-again : tie.Need-loop-again Inv-loop μ-loop
 unfolding allBelow
 loop-again c = (omega arith, rw (add-one, c .before .before .before .loop .inv .1, c .choice-none .ensures))
 
-returns : tie.Need-returns Inv-loop μ-loop
-returns c = let e : c .before .loop .k ≡ 8 = omega arith in rw (c .before .loop .inv .1, e)
-
 pub choices-none-spec : {M : Type 1} → statement M
 choices-none-spec =
-    tie.close (tie.spec Inv-loop μ-loop loop-holds (λ c. search needs) (λ c. search needs) (λ c κs. search needs) (λ c. search needs) (λ c. search needs) loop-again returns)
+    tie.close (tie.spec Inv-loop μ-loop loop-holds (λ c. search needs) (λ c. search needs) (λ c κs. search needs) (λ c. search needs) (λ c. search needs) loop-again
+    (λ c. let e : c .before .loop .k ≡ 8 = omega arith in rw (c .before .loop .inv .1, e)))

@@ -6,7 +6,7 @@ use Rattle.rules.proofs.limits_two.Tie as tie
 
 returns : tie.Need-returns
 unfolding limitsTwo
-returns c = rw (c .before .before .before .before .before .limit-ok .ensures, c .before .before .before .before .limit-ok2 .ensures)
+returns c = let c1 = c .before .before .before .before in let c2 = c1 .before in rw (c2 .limit-ok .ensures, c1 .limit-ok2 .ensures)
 
 pub limits-two-spec : {M : Type 1} → statement M
 limits-two-spec = tie.close (tie.spec (λ c κs. search needs) (λ c κs. search needs) returns)

@@ -20,15 +20,9 @@ loop-holds : tie.Need-loop-holds Inv-loop μ-loop
 unfolding allBelow
 loop-holds c = (omega arith, refl)
 
-slice-aggregate-alike-texts : tie.Need-slice-aggregate-alike-texts Inv-loop μ-loop
-slice-aggregate-alike-texts c = sym (names-long (c .before .before .before .before .before .before .before .args .t1) _ (c .before .before .before .before .before .before .before .good .0) _ (omega arith))
-
-slice-aggregate-alike-texts-2 : tie.Need-slice-aggregate-alike-texts-2 Inv-loop μ-loop
-slice-aggregate-alike-texts-2 c = sym (names-long (c .before .before .before .before .before .before .before .before .args .t1) _ (c .before .before .before .before .before .before .before .before .good .0) _ (omega arith))
-
 loop-again : tie.Need-loop-again Inv-loop μ-loop
 unfolding allBelow apartAt
-loop-again c = (omega arith, rw (add-one, c .before .before .before .before .before .before .before .before .loop .inv .1, c .alike-texts .ensures))
+loop-again c = let c1 = c .before .before .before .before in let c2 = c1 .before .before .before .before in (omega arith, rw (add-one, c2 .loop .inv .1, c .alike-texts .ensures))
 
 returns : tie.Need-returns Inv-loop μ-loop
 unfolding namesApart
@@ -36,4 +30,7 @@ returns c = let e : c .before .loop .q ≡ 1024 = omega arith in rw (c .before .
 
 pub names-compared-spec : {M : Type 1} → statement M
 names-compared-spec =
-    tie.close (tie.spec Inv-loop μ-loop (λ c. search needs) loop-holds (λ c. search needs) (λ c. search needs) (λ c. search needs) (λ c. search needs) slice-aggregate-alike-texts slice-aggregate-alike-texts-2 (λ c κs. search needs) (λ c. search needs) (λ c. search needs) loop-again returns)
+    tie.close (tie.spec Inv-loop μ-loop (λ c. search needs) loop-holds (λ c. search needs) (λ c. search needs) (λ c. search needs) (λ c. search needs)
+    (λ c. let c1 = c .before .before .before .before in let c2 = c1 .before .before .before in sym (names-long (c2 .args .t1) _ (c2 .good .0) _ (omega arith)))
+    (λ c. let c1 = c .before .before .before .before in let c2 = c1 .before .before .before .before in sym (names-long (c2 .args .t1) _ (c2 .good .0) _ (omega arith)))
+    (λ c κs. search needs) (λ c. search needs) (λ c. search needs) loop-again returns)

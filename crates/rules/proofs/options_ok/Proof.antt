@@ -19,8 +19,7 @@ returns-2 c =
 
 returns-3 : tie.Need-returns-3
 returns-3 c =
-    let m = c .before .before .before .before in
-    let s = m .before .before .before in
+    let m = c .before .before .before .before in let s = m .before .before .before in
     rw (m .is-discrete .ensures, c .before .choices-ok .ensures, c .choices-apart .ensures) (options-are (s .args .sensor) (omega arith) (omega arith) (options-long (s .args .sensor) _ (s .good .1 .0)))
 
 pub options-ok-spec : {M : Type 1} → statement M

@@ -57,12 +57,11 @@ sensor-ok-at-requires c κs = refl
 loop-again : tie.Need-loop-again Inv-loop μ-loop
 unfolding allBelow
 loop-again c =
-    let turn = c .before .before .before .before .before .before .loop in
-    let sheet = c .before .before .before .before .before .before .before .args .t1 in
+    let c1 = c .before in let c2 = c1 .before .before .before in let c3 = c2 .before .before in let c4 = c3 .before in let turn = c3 .loop in let sheet = c4 .args .t1 in
     let below : turn .j < 32 = omega arith in (
       omega arith,
       (
-        rw (add-one (turn .j), turn .inv .1 .0, c .before .sensor-ok-at .ensures),
+        rw (add-one (turn .j), turn .inv .1 .0, c1 .sensor-ok-at .ensures),
         (
           rw (turn .inv .1 .1 .0) (filled-one (kindAt sheet) (replicate 32 0) (turn .j) below),
           (
@@ -76,11 +75,10 @@ loop-again c =
 returns : tie.Need-returns Inv-loop μ-loop
 unfolding sensorsFound nameKeys
 returns c =
-    let sheet = c .before .before .before .before .before .args .t1 in
-    let turn = c .before .before .before .before .loop in
+    let c1 = c .before .before .before .before in let c2 = c1 .before in let sheet = c2 .args .t1 in let turn = c1 .loop in
     let e : turn .j ≡ 32 = omega arith in
     let each : turn .ok ≡ allBelow (sensorOkAt sheet) 32 = rw e at (turn .inv .1 .0) in
-    let long = names-long sheet _ (c .before .before .before .before .before .good .0) in
+    let long = names-long sheet _ (c2 .good .0) in
     let ok : (leb (sheet .count) 32 && c .if1 .ok) ≡ sensorsOk sheet =
     ⊎-elim
     (λ w. rw (w .2, each, w .1 .ensures) (sensors-are sheet long))

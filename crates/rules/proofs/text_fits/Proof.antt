@@ -15,25 +15,12 @@ Inv-loop bytes least most charset ok₀ i₀ ok i = Passing (inCharset charset) 
 abbrev μ-loop : tie.MeasureT-loop
 μ-loop bytes least most charset ok₀ i₀ ok i = length bytes - i
 
-loop-holds : tie.Need-loop-holds Inv-loop μ-loop
-loop-holds c = passing _ _
-
-shared-slice-read-in-charset : tie.Need-shared-slice-read-in-charset Inv-loop μ-loop
-shared-slice-read-in-charset c = omega arith
-
-add-i : tie.Need-add-i Inv-loop μ-loop
-add-i c = omega arith
-
-loop-less : tie.Need-loop-less Inv-loop μ-loop
-loop-less c = omega arith
-
-loop-again : tie.Need-loop-again Inv-loop μ-loop
-loop-again c = rw (c .in-charset .ensures) (passing-on (c .before .before .before .loop .inv) (omega arith))
-
 returns : tie.Need-returns Inv-loop μ-loop
 unfolding textFits
 returns c = rw (passing-end (c .before .loop .inv) (omega arith))
 
 pub text-fits-spec : {M : Type 1} → statement M
 text-fits-spec =
-    tie.close (tie.spec Inv-loop μ-loop loop-holds shared-slice-read-in-charset (λ c κs. search needs) add-i loop-less loop-again returns)
+    tie.close (tie.spec Inv-loop μ-loop (λ c. passing _ _) (λ c. omega arith) (λ c κs. search needs) (λ c. omega arith) (λ c. omega arith)
+    (λ c. rw (c .in-charset .ensures) (passing-on (c .before .before .before .loop .inv) (omega arith)))
+    returns)

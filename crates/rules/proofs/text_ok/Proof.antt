@@ -15,28 +15,14 @@ Inv-loop bytes places len least most charset ok₀ i₀ ok i = Filling (inCharse
 abbrev μ-loop : tie.MeasureT-loop
 μ-loop bytes places len least most charset ok₀ i₀ ok i = length bytes - i
 
-loop-holds : tie.Need-loop-holds Inv-loop μ-loop
-loop-holds c = filling _ _ _
-
-shared-slice-read-b : tie.Need-shared-slice-read-b Inv-loop μ-loop
-shared-slice-read-b c = omega arith
-
-shared-slice-read-inside : tie.Need-shared-slice-read-inside Inv-loop μ-loop
-shared-slice-read-inside c = omega (arith, places-many (c .before .before .before .before .before .before .before .pre .counts))
-
-add-i : tie.Need-add-i Inv-loop μ-loop
-add-i c = omega arith
-
-loop-less : tie.Need-loop-less Inv-loop μ-loop
-loop-less c = omega arith
-
-loop-again : tie.Need-loop-again Inv-loop μ-loop
-loop-again c = rw (place-at (c .before .before .before .before .before .before .before .pre) (c .before .before .before .before .loop .i) (omega arith), c .before .in-charset .ensures) (filling-on (c .before .before .before .before .loop .inv) (omega arith))
-
 returns : tie.Need-returns Inv-loop μ-loop
 unfolding textOk
 returns c = rw (filling-end (c .before .loop .inv) (omega arith))
 
 pub text-ok-spec : {M : Type 1} → statement M
 text-ok-spec =
-    tie.close (tie.spec Inv-loop μ-loop loop-holds shared-slice-read-b (λ c κs. search needs) shared-slice-read-inside add-i loop-less loop-again returns)
+    tie.close (tie.spec Inv-loop μ-loop (λ c. filling _ _ _) (λ c. omega arith) (λ c κs. search needs)
+    (λ c. omega (arith, places-many (let c1 = c .before .before .before .before in let c2 = c1 .before .before .before in c2 .pre .counts)))
+    (λ c. omega arith) (λ c. omega arith)
+    (λ c. let c1 = c .before .before .before .before in let c2 = c1 .before .before .before in rw (place-at (c2 .pre) (c1 .loop .i) (omega arith), c .before .in-charset .ensures) (filling-on (c1 .loop .inv) (omega arith)))
+    returns)

@@ -21,16 +21,13 @@ loop-holds : tie.Need-loop-holds Inv-loop μ-loop
 unfolding howMany
 loop-holds c = (omega arith, refl)
 
-one-more-requires : tie.Need-one-more-requires Inv-loop μ-loop
-one-more-requires c κs = omega (arith, few (λ i. eqb (getD (c .before .before .args .t1) i 0) (c .before .before .args .own)) (c .before .loop .i))
-
 loop-again : tie.Need-loop-again Inv-loop μ-loop
 unfolding howMany
 loop-again c = (omega arith, rw (add-one (c .before .before .loop .i), c .one-more .ensures, c .before .before .loop .inv .1))
 
-returns : tie.Need-returns Inv-loop μ-loop
-returns c = let e : c .before .loop .i ≡ c .before .before .args .count = omega arith in rw (c .before .loop .inv .1, e)
-
 pub times-spec : {M : Type 1} → statement M
 times-spec =
-    tie.close (tie.spec Inv-loop μ-loop loop-holds (λ c. search needs) (λ c. search needs) one-more-requires (λ c. search needs) (λ c. search needs) loop-again returns)
+    tie.close (tie.spec Inv-loop μ-loop loop-holds (λ c. search needs) (λ c. search needs)
+    (λ c κs. omega (arith, few (λ i. eqb (getD (c .before .before .args .t1) i 0) (c .before .before .args .own)) (c .before .loop .i)))
+    (λ c. search needs) (λ c. search needs) loop-again
+    (λ c. let e : c .before .loop .i ≡ c .before .before .args .count = omega arith in rw (c .before .loop .inv .1, e)))

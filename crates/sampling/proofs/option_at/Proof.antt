@@ -7,8 +7,6 @@ use borrow.Author.Needs.{needs}
 use Rattle.sampling.proofs.option_at.Statement.{statement}
 use Rattle.sampling.proofs.option_at.Tie as tie
 
-returns-2 : tie.Need-returns-2
-returns-2 c = rw (List·getD-eq-default (c .before .args .sensor .options) noChoice {n = c .before .args .place} (omega (arith, options-many (c .before .args .sensor) _ (c .before .good .0))))
-
 pub option-at-spec : {M : Type 1} → statement M
-option-at-spec = tie.close (tie.spec (λ c. search needs) (λ c. search needs) (λ c. search needs) returns-2)
+option-at-spec = tie.close (tie.spec (λ c. search needs) (λ c. search needs) (λ c. search needs)
+    (λ c. rw (List·getD-eq-default (c .before .args .sensor .options) noChoice {n = c .before .args .place} (omega (arith, options-many (c .before .args .sensor) _ (c .before .good .0))))))

@@ -8,7 +8,7 @@ returns : tie.Need-returns
 unfolding valueFor
 returns c =
     let c0 = c .before .before in
-    let c1 = c0 .before .before .before .before .before in
+    let c1a = c0 .before .before .before in let c1 = c1a .before .before in
     rw (c1 .option-at .ensures) at (c0 .put-arg-value .ensures)
 
 pub put-arg-number-spec : {M : Type 1} → statement M

@@ -27,19 +27,18 @@ loop-holds c = search (first-come, subscriptions-many, needs)
 
 loop-less : tie.Need-loop-less Inv-loop μ-loop
 loop-less c =
-    let c1 = c .before .before .before .before .before .before .before in
+    let c1a = c .before .before .before .before in let c1 = c1a .before .before .before in
     let behind : c1 .loop .p < c .next-place .result = rw (c .next-place .ensures) (next-behind _ _ _) in
     omega arith
 
 loop-again : tie.Need-loop-again Inv-loop μ-loop
 loop-again c =
-    let c1 = c .before .before .before .before .before .before in let c2 = c1 .before in let c3 = c2 .before .before in let c4 = c3 .before .before .before .before .before in
+    let c1a = c .before .before .before in let c1 = c1a .before .before .before in let c2 = c1 .before in let c3 = c2 .before .before in let c4a = c3 .before .before .before in let c4 = c4a .before .before in
     let start = c4 in
     let loop = c2 .loop in
     let test : loop .p < 256 = c1 .loop-test .taken in
     let all = subscriptions-many (start .args .s) _ (start .good .1 .0) in
-    let reading = c3 .by-reading in
-    let can = c .before .before .can-report in
+    let reading = c3 .by-reading in let can = c .before .before .can-report in
     next-come all test (loop .inv) (c .next-place .ensures)
     (⊎-elim
     (λ w.
@@ -56,7 +55,7 @@ loop-again c =
 
 returns : tie.Need-returns Inv-loop μ-loop
 returns c =
-    let c1 = c .before in let c2 = c1 .before .before .before .before .before .before .before in
+    let c1 = c .before in let c2a = c1 .before .before .before .before in let c2 = c2a .before .before .before in
     let start = c2 in (
       refl,
       visited

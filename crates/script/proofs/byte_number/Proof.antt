@@ -5,8 +5,6 @@ use Rattle.script.specs.Script.{atMost}
 use Rattle.script.proofs.byte_number.Statement.{statement}
 use Rattle.script.proofs.byte_number.Tie as tie
 
-returns : tie.Need-returns
-returns c = c .at-most .ensures ∙ ap (atMost 255) (c .before .read-decimal .ensures)
-
 pub byte-number-spec : {M : Type 1} → statement M
-byte-number-spec = tie.close (tie.spec (λ c κs. search needs) (λ c κs. search needs) returns)
+byte-number-spec = tie.close (tie.spec (λ c κs. search needs) (λ c κs. search needs)
+    (λ c. c .at-most .ensures ∙ ap (atMost 255) (c .before .read-decimal .ensures)))

@@ -23,8 +23,7 @@ returns-2 c =
 returns-3 : tie.Need-returns-3
 unfolding called
 returns-3 c =
-    let c2 = c .before .before .before in
-    let c1 = c2 .before .before .before in
+    let c2 = c .before .before .before in let c1 = c2 .before .before .before in
     rw (
       rw (c1 .before .before .has-words .ensures, c1 .before .has-bytes .ensures) at (c1 .if1 .left),
       sym (c2 .before .has-words2 .ensures) ∙ c2 .if2 .left,
@@ -34,10 +33,8 @@ returns-3 c =
 returns-4 : tie.Need-returns-4
 unfolding called
 returns-4 c =
-    let c4 = c .before in
-    let c3 = c4 .before .before .before in
-    let c2 = c3 .before .before .before in
-    let c1 = c2 .before .before .before in
+    let c4 = c .before in let c3 = c4 .before .before .before in
+    let c2 = c3 .before .before .before in let c1 = c2 .before .before .before in
     rw (
       rw (c1 .before .before .has-words .ensures, c1 .before .has-bytes .ensures) at (c1 .if1 .left),
       sym (c2 .before .has-words2 .ensures) ∙ c2 .if2 .left,
@@ -47,16 +44,15 @@ returns-4 c =
 
 cast-t32 : tie.Need-cast-t32
 cast-t32 c =
-    let n = c .before .before .before .before .before .before .before .before .before .before .before .before .before .before .before .before .before .before .before .args .n in
+    let c1 = c .before .before .before .before in let c2 = c1 .before .before .before .before in let c3 = c2 .before .before .before .before in let c4 = c3 .before .before .before .before in let c5 = c4 .before .before .before in
+    let n = c5 .args .n in
     omega (arith, leb-true n 255 (and-true (leb n 255) (c .before .before .has-bytes2 .result && c .before .has-bytes3 .result) (and-true (c .before .before .before .has-words5 .result) _ (c .if5 .taken) .1) .0))
 
 returns-5 : tie.Need-returns-5
 unfolding called
 returns-5 c =
-    let c4 = c .before .before .before .before .before in
-    let c3 = c4 .before .before .before in
-    let c2 = c3 .before .before .before in
-    let c1 = c2 .before .before .before in
+    let c4a = c .before .before .before in let c4 = c4a .before .before in let c3 = c4 .before .before .before in
+    let c2 = c3 .before .before .before in let c1 = c2 .before .before .before in
     rw (
       rw (c1 .before .before .has-words .ensures, c1 .before .has-bytes .ensures) at (c1 .if1 .left),
       sym (c2 .before .has-words2 .ensures) ∙ c2 .if2 .left,
@@ -69,10 +65,8 @@ returns-6 : tie.Need-returns-6
 unfolding called
 returns-6 c =
     let c5 = c .before .before .before .before in
-    let c4 = c5 .before .before .before .before .before in
-    let c3 = c4 .before .before .before in
-    let c2 = c3 .before .before .before in
-    let c1 = c2 .before .before .before in
+    let c4a = c5 .before .before .before in let c4 = c4a .before .before in let c3 = c4 .before .before .before in
+    let c2 = c3 .before .before .before in let c1 = c2 .before .before .before in
     rw (
       rw (c1 .before .before .has-words .ensures, c1 .before .has-bytes .ensures) at (c1 .if1 .left),
       sym (c2 .before .has-words2 .ensures) ∙ c2 .if2 .left,
@@ -86,10 +80,8 @@ returns-7 : tie.Need-returns-7
 unfolding called
 returns-7 c =
     let c5 = c .before .before .before .before in
-    let c4 = c5 .before .before .before .before .before in
-    let c3 = c4 .before .before .before in
-    let c2 = c3 .before .before .before in
-    let c1 = c2 .before .before .before in
+    let c4a = c5 .before .before .before in let c4 = c4a .before .before in let c3 = c4 .before .before .before in
+    let c2 = c3 .before .before .before in let c1 = c2 .before .before .before in
     rw (
       rw (c1 .before .before .has-words .ensures, c1 .before .has-bytes .ensures) at (c1 .if1 .left),
       sym (c2 .before .has-words2 .ensures) ∙ c2 .if2 .left,

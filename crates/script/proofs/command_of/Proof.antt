@@ -27,8 +27,7 @@ returns-2 c =
 returns-3 : tie.Need-returns-3
 unfolding commandOf
 returns-3 c =
-    let c2 = c .before .before .before in
-    let c1 = c2 .before .before .before .before in
+    let c2 = c .before .before .before in let c1 = c2 .before .before .before .before in
     rw (
       le-ltb 65536 (length (c1 .before .before .before .args .line .now)) (c1 .before .before .before .pre),
       sym (c1 .before .is-passed .ensures) ∙ c1 .if1 .left,
@@ -39,8 +38,7 @@ returns-3 c =
 returns-4 : tie.Need-returns-4
 unfolding commandOf
 returns-4 c =
-    let c2 = c .before .before .before .before .before .before in
-    let c1 = c2 .before .before .before .before in
+    let c2a = c .before .before .before in let c2 = c2a .before .before .before in let c1 = c2 .before .before .before .before in
     rw (
       le-ltb 65536 (length (c1 .before .before .before .args .line .now)) (c1 .before .before .before .pre),
       sym (c1 .before .is-passed .ensures) ∙ c1 .if1 .left,
@@ -52,8 +50,7 @@ returns-4 c =
 returns-5 : tie.Need-returns-5
 unfolding commandOf
 returns-5 c =
-    let c2 = c .before .before .before .before .before .before .before .before in
-    let c1 = c2 .before .before .before .before in
+    let c2a = c .before .before .before .before in let c2 = c2a .before .before .before .before in let c1 = c2 .before .before .before .before in
     rw (
       le-ltb 65536 (length (c1 .before .before .before .args .line .now)) (c1 .before .before .before .pre),
       sym (c1 .before .is-passed .ensures) ∙ c1 .if1 .left,

@@ -5,8 +5,5 @@ use Rattle.hex.specs.Hex.{isBytes}
 use Rattle.script.proofs.has_bytes.Statement.{statement}
 use Rattle.script.proofs.has_bytes.Tie as tie
 
-returns : tie.Need-returns
-returns c = c .is-bytes .ensures ∙ ap isBytes (c .before .word .ensures)
-
 pub has-bytes-spec : {M : Type 1} → statement M
-has-bytes-spec = tie.close (tie.spec (λ c κs. search needs) (λ c κs. search needs) returns)
+has-bytes-spec = tie.close (tie.spec (λ c κs. search needs) (λ c κs. search needs) (λ c. c .is-bytes .ensures ∙ ap isBytes (c .before .word .ensures)))

@@ -10,12 +10,8 @@ use Rattle.script.specs.Script.{integerGiven}
 use Rattle.script.proofs.integer_of.Statement.{statement}
 use Rattle.script.proofs.integer_of.Tie as tie
 
-returns : tie.Need-returns
-returns c = sym (ap integerGiven (sym (c .before .before .read-integer .ensures) ∙ c .enum-told .given .1))
-
-returns-2 : tie.Need-returns-2
-returns-2 c = ap (λ (z : ℤ). A (Integer z)) (toZ-ofZ w32 (c .before .x .given .0 .0) (search needs)) ∙ sym (ap integerGiven (sym (c .before .before .before .read-integer .ensures) ∙ c .before .x .given .1))
-
 pub integer-of-spec : {M : Type 1} → statement M
 integer-of-spec =
-    tie.close (tie.spec (λ c κs. search needs) (λ c. search needs) (λ c. search needs) returns returns-2)
+    tie.close (tie.spec (λ c κs. search needs) (λ c. search needs) (λ c. search needs)
+    (λ c. sym (ap integerGiven (sym (c .before .before .read-integer .ensures) ∙ c .enum-told .given .1)))
+    (λ c. ap (λ (z : ℤ). A (Integer z)) (toZ-ofZ w32 (c .before .x .given .0 .0) (search needs)) ∙ sym (ap integerGiven (sym (c .before .before .before .read-integer .ensures) ∙ c .before .x .given .1))))

@@ -4,11 +4,6 @@ use Rattle.script.proofs.CommandLaws.{passed-empty, passed-first}
 use Rattle.script.proofs.is_passed.Statement.{statement}
 use Rattle.script.proofs.is_passed.Tie as tie
 
-returns : tie.Need-returns
-returns c = passed-empty (c .before .args .line .now) (c .if1 .taken)
-
-returns-2 : tie.Need-returns-2
-returns-2 c = passed-first (c .before .before .args .line .now) (c .before .if1 .left)
-
 pub is-passed-spec : {M : Type 1} → statement M
-is-passed-spec = tie.close (tie.spec returns (λ c. search needs) returns-2)
+is-passed-spec = tie.close (tie.spec (λ c. passed-empty (c .before .args .line .now) (c .if1 .taken)) (λ c. search needs)
+    (λ c. passed-first (c .before .before .args .line .now) (c .before .if1 .left)))

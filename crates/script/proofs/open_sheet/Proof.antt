@@ -11,15 +11,7 @@ use Rattle.script.proofs.open_sheet.Tie as tie
 held-sheet : (c : tie.After-put-bytes-of) → Held 1 (c .before .before .before .before .args .line .now) (c .put-bytes-of .last .0) (c .put-bytes-of .result)
 held-sheet c = held 1 (c .before .word .ensures) (c .put-bytes-of .ensures) (c .before .before .before .before .pre)
 
-array-share-prefix-sheet : tie.Need-array-share-prefix-sheet
-array-share-prefix-sheet c = held-sheet (c .before) .inside
-
-slice-aggregate-open : tie.Need-slice-aggregate-open
-slice-aggregate-open c = held-sheet (c .before .before) .count
-
-returns : tie.Need-returns
-returns c = c .silent .ensures ∙ ap (λ (o : Opened). quiet (o .number) (o .state)) (c .before .«open» .ensures ∙ ap opened (held-sheet (c .before .before .before .before) .bytes))
-
 pub open-sheet-spec : {M : Type 1} → statement M
 open-sheet-spec =
-    tie.close (tie.spec (λ c. search needs) (λ c κs. search needs) (λ c κs. search needs) array-share-prefix-sheet slice-aggregate-open (λ c κs. search needs) (λ c κs. search needs) returns)
+    tie.close (tie.spec (λ c. search needs) (λ c κs. search needs) (λ c κs. search needs) (λ c. held-sheet (c .before) .inside) (λ c. held-sheet (c .before .before) .count) (λ c κs. search needs) (λ c κs. search needs)
+    (λ c. c .silent .ensures ∙ ap (λ (o : Opened). quiet (o .number) (o .state)) (c .before .«open» .ensures ∙ ap opened (held-sheet (c .before .before .before .before) .bytes))))

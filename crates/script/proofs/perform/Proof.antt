@@ -12,14 +12,11 @@ returns c =
     let s = c .before .before .before .before .args in
     too-long (s .state) (s .line .now) (s .out .now) (c .before .if1 .taken) (c .silent .ensures)
 
-slice-aggregate-carry-out : tie.Need-slice-aggregate-carry-out
-slice-aggregate-carry-out c = sym (length-take-le _ _ (omega arith))
-
 returns-2 : tie.Need-returns-2
 returns-2 c =
-    let s = c .before .before .before .before .before .before .before .before .before .args in
-    made (s .state) (s .line .now) (s .out .now) (c .before .before .before .before .before .command-of .ensures) (c .before .before .before .before .lent-len .ensures) (c .before .before .carry-out .ensures)
+    let c1 = c .before .before .before .before in let c2 = c1 .before in let c3 = c2 .before .before .before .before in let s = c3 .args in
+    made (s .state) (s .line .now) (s .out .now) (c2 .command-of .ensures) (c1 .lent-len .ensures) (c .before .before .carry-out .ensures)
 
 pub perform-spec : {M : Type 1} → statement M
 perform-spec =
-    tie.close (tie.spec (λ c κs. search needs) returns (λ c κs. search needs) (λ c κs. search needs) (λ c. search needs) slice-aggregate-carry-out (λ c κs. search needs) (λ c. search needs) returns-2)
+    tie.close (tie.spec (λ c κs. search needs) returns (λ c κs. search needs) (λ c κs. search needs) (λ c. search needs) (λ c. sym (length-take-le _ _ (omega arith))) (λ c κs. search needs) (λ c. search needs) returns-2)

@@ -8,8 +8,7 @@ use Rattle.script.proofs.put_answer.Tie as tie
 returns : tie.Need-returns
 unfolding answerLine
 returns c =
-    let c3 = c .before .before .before .before .before .before in
-    let c2 = c3 .before .before .before .before in
+    let c3a = c .before .before .before in let c3 = c3a .before .before .before in let c2 = c3 .before .before .before .before in
     let c1 = c2 .before .before .before .before in
     then (c1 .put-decimal .ensures) (then (c2 .put-byte .ensures) (then (c3 .put-text .ensures) (c .before .before .put-byte2 .ensures)))
 

@@ -32,11 +32,9 @@ returns c = rw (c .enum-told .given .1) blank
 
 returns-2 : tie.Need-returns-2
 unfolding reply
-returns-2 c = rw (c .before .before .before .before .before .enum-told2 .given .1) (c .before .before .put-bytes .ensures)
-
-returns-3 : tie.Need-returns-3
-returns-3 c = said (c .before .before .put-answer .ensures) (call-answered _ _ _ (c .before .before .before .before .match .keys3))
+returns-2 c = let c1 = c .before .before in let c2 = c1 .before .before .before in rw (c2 .enum-told2 .given .1) (c1 .put-bytes .ensures)
 
 pub put-reply-spec : {M : Type 1} → statement M
 put-reply-spec =
-    tie.close (tie.spec (λ c. search needs) (λ c. search needs) (λ c. search needs) (λ c κs. search needs) (λ c κs. search needs) returns (λ c. search needs) returns-2 (λ c. search needs) returns-3)
+    tie.close (tie.spec (λ c. search needs) (λ c. search needs) (λ c. search needs) (λ c κs. search needs) (λ c κs. search needs) returns (λ c. search needs) returns-2 (λ c. search needs)
+    (λ c. said (c .before .before .put-answer .ensures) (call-answered _ _ _ (c .before .before .before .before .match .keys3))))

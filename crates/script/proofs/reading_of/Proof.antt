@@ -14,25 +14,20 @@ returns c =
 returns-2 : tie.Need-returns-2
 unfolding given
 returns-2 c =
-    let c2 = c .before in
-    let c1 = c2 .before .before .before in
+    let c2 = c .before in let c1 = c2 .before .before .before in
     rw (sym (c1 .before .same .ensures) ∙ c1 .if1 .left, sym (c2 .before .same2 .ensures) ∙ c2 .if2 .taken) (c .float-of .ensures)
 
 returns-3 : tie.Need-returns-3
 unfolding given
 returns-3 c =
-    let c3 = c .before in
-    let c2 = c3 .before .before .before in
-    let c1 = c2 .before .before .before in
+    let c3 = c .before in let c2 = c3 .before .before .before in let c1 = c2 .before .before .before in
     rw (sym (c1 .before .same .ensures) ∙ c1 .if1 .left, sym (c2 .before .same2 .ensures) ∙ c2 .if2 .left, sym (c3 .before .same3 .ensures) ∙ c3 .if3 .taken) (c .boolean-of .ensures)
 
 returns-4 : tie.Need-returns-4
 unfolding given
 returns-4 c =
-    let c4 = c .before in
-    let c3 = c4 .before .before .before in
-    let c2 = c3 .before .before .before in
-    let c1 = c2 .before .before .before in
+    let c4 = c .before in let c3 = c4 .before .before .before in
+    let c2 = c3 .before .before .before in let c1 = c2 .before .before .before in
     rw (
       sym (c1 .before .same .ensures) ∙ c1 .if1 .left,
       sym (c2 .before .same2 .ensures) ∙ c2 .if2 .left,
@@ -43,11 +38,8 @@ returns-4 c =
 returns-5 : tie.Need-returns-5
 unfolding given
 returns-5 c =
-    let c5 = c .before in
-    let c4 = c5 .before .before .before in
-    let c3 = c4 .before .before .before in
-    let c2 = c3 .before .before .before in
-    let c1 = c2 .before .before .before in
+    let c5 = c .before in let c4 = c5 .before .before .before in
+    let c3 = c4 .before .before .before in let c2 = c3 .before .before .before in let c1 = c2 .before .before .before in
     rw (
       sym (c1 .before .same .ensures) ∙ c1 .if1 .left,
       sym (c2 .before .same2 .ensures) ∙ c2 .if2 .left,
@@ -59,11 +51,8 @@ returns-5 c =
 returns-6 : tie.Need-returns-6
 unfolding given
 returns-6 c =
-    let c5 = c .before in
-    let c4 = c5 .before .before .before in
-    let c3 = c4 .before .before .before in
-    let c2 = c3 .before .before .before in
-    let c1 = c2 .before .before .before in
+    let c5 = c .before in let c4 = c5 .before .before .before in
+    let c3 = c4 .before .before .before in let c2 = c3 .before .before .before in let c1 = c2 .before .before .before in
     rw (
       sym (c1 .before .same .ensures) ∙ c1 .if1 .left,
       sym (c2 .before .same2 .ensures) ∙ c2 .if2 .left,

@@ -6,12 +6,8 @@ use Rattle.script.specs.Script.{readingOf}
 use Rattle.script.proofs.timestamp_of.Statement.{statement}
 use Rattle.script.proofs.timestamp_of.Tie as tie
 
-returns : tie.Need-returns
-returns c = sym (ap (readingOf Timestamp) (sym (c .before .before .read-decimal .ensures) ∙ c .enum-told .given .1))
-
-returns-2 : tie.Need-returns-2
-returns-2 c = sym (ap (readingOf Timestamp) (sym (c .before .before .before .read-decimal .ensures) ∙ c .before .n .given .1))
-
 pub timestamp-of-spec : {M : Type 1} → statement M
 timestamp-of-spec =
-    tie.close (tie.spec (λ c κs. search needs) (λ c. search needs) (λ c. search needs) returns returns-2)
+    tie.close (tie.spec (λ c κs. search needs) (λ c. search needs) (λ c. search needs)
+    (λ c. sym (ap (readingOf Timestamp) (sym (c .before .before .read-decimal .ensures) ∙ c .enum-told .given .1)))
+    (λ c. sym (ap (readingOf Timestamp) (sym (c .before .before .before .read-decimal .ensures) ∙ c .before .n .given .1))))

@@ -23,9 +23,7 @@ loop-again : tie.Need-loop-again Inv-loop μ-loop
 unfolding allBelow
 loop-again c = (omega arith, rw (add-one, c .before .before .before .loop .inv .1, c .client-ok .ensures))
 
-returns : tie.Need-returns Inv-loop μ-loop
-returns c = let e : c .before .loop .c ≡ 8 = omega arith in rw (c .before .loop .inv .1, e)
-
 pub clients-ok-spec : {M : Type 1} → statement M
 clients-ok-spec =
-    tie.close (tie.spec Inv-loop μ-loop loop-holds (λ c. search needs) (λ c. search needs) (λ c κs. search needs) (λ c. search needs) (λ c. search needs) loop-again returns)
+    tie.close (tie.spec Inv-loop μ-loop loop-holds (λ c. search needs) (λ c. search needs) (λ c κs. search needs) (λ c. search needs) (λ c. search needs) loop-again
+    (λ c. let e : c .before .loop .c ≡ 8 = omega arith in rw (c .before .loop .inv .1, e)))

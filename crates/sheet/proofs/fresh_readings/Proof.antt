@@ -30,11 +30,12 @@ unfolding tabulate
 loop-holds c = (omega arith, rw (c .no-stored .ensures))
 
 loop-again : tie.Need-loop-again Inv-loop μ-loop
-loop-again c = (
-  omega arith,
-  rw (c .before .before .before .loop .inv .1, c .fresh-stored .ensures)
-      (filled-one (freshAt (c .before .before .before .before .before .args .t1)) (replicate 32 noStored) (c .before .before .before .loop .j) (omega arith)),
-)
+loop-again c =
+    let c1 = c .before .before .before in let c2 = c1 .before .before in (
+      omega arith,
+      rw (c1 .loop .inv .1, c .fresh-stored .ensures)
+          (filled-one (freshAt (c2 .args .t1)) (replicate 32 noStored) (c1 .loop .j) (omega arith)),
+    )
 
 returns : tie.Need-returns Inv-loop μ-loop
 unfolding freshReadings

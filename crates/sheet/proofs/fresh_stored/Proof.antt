@@ -3,9 +3,6 @@ use borrow.Author.Needs.{needs}
 use Rattle.sheet.proofs.fresh_stored.Statement.{statement}
 use Rattle.sheet.proofs.fresh_stored.Tie as tie
 
-returns : tie.Need-returns
-returns c = rw (c .before .if1 .taken, c .invalid-sample .ensures)
-
 pub fresh-stored-spec : {M : Type 1} → statement M
 fresh-stored-spec =
-    tie.close (tie.spec (λ c κs. search needs) returns (λ c κs. search needs) (λ c. search needs))
+    tie.close (tie.spec (λ c κs. search needs) (λ c. rw (c .before .if1 .taken, c .invalid-sample .ensures)) (λ c κs. search needs) (λ c. search needs))

@@ -9,9 +9,9 @@ use Rattle.sheet.proofs.in_range.Tie as tie
 returns : tie.Need-returns
 unfolding inRange isBlank sensorsFound
 returns c =
-    let p = c .before .before .before in
-    let a = p .before .before .before .before .before .before .before in
-    let s = a .before .before .before .before .before .before .before .before .args .s in
+    let c1 = c .before .before .before in
+    let p = c1 in
+    let aa = p .before .before .before .before in let a = aa .before .before .before in let s = a .before .before .before .before .before .before .before .before .args .s in
     rw (a .before .before .before .titles-ok .ensures, a .before .before .titles-none .ensures, a .no-clients .ensures, p .before .before .readings-ok .ensures, p .before .clients-ok .ensures, p .pairs-ok .ensures, a .before .sensors-found .ensures, readings-found (s .sheet) (s .clock) (s .readings), pairs-found s)
 
 pub in-range-spec : {M : Type 1} → statement M

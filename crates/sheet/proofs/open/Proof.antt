@@ -13,14 +13,12 @@ returns c =
 
 returns-2 : tie.Need-returns-2
 returns-2 c =
-    let f = c .before .before in
-    let r = f .before .before .before .before .before .before .sheet-at in
+    let f = c .before .before in let r = f .before .before .before .before .before .before .sheet-at in
     sym (open-good _ (r .result) (r .ensures) (not-false (r .result .taken) (f .before .before .before .before .if1 .left)) _ (f .fresh-state .ensures) _ (c .before .in-range .ensures) (c .if2 .taken))
 
 returns-3 : tie.Need-returns-3
 returns-3 c =
-    let f = c .before .before .before in
-    let r = f .before .before .before .before .before .before .sheet-at in
+    let f = c .before .before .before in let r = f .before .before .before .before .before .before .sheet-at in
     c .refused2 .ensures ∙ sym (open-faulty _ (r .result) (r .ensures) (not-false (r .result .taken) (f .before .before .before .before .if1 .left)) _ (f .fresh-state .ensures) _ (c .before .before .in-range .ensures) (c .before .if2 .left))
 
 pub open-spec : {M : Type 1} → statement M

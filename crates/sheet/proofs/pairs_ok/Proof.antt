@@ -22,7 +22,7 @@ loop-holds c = (omega arith, refl)
 
 loop-again : tie.Need-loop-again Inv-loop μ-loop
 unfolding allBelow pairFits
-loop-again c = (omega arith, rw (add-one, c .before .before .before .before .before .loop .inv .1, c .pair-ok .ensures))
+loop-again c = let c1 = c .before .before .before in let c2 = c1 .before .before in (omega arith, rw (add-one, c2 .loop .inv .1, c .pair-ok .ensures))
 
 returns : tie.Need-returns Inv-loop μ-loop
 unfolding pairFits

@@ -30,8 +30,7 @@ returns-5 c = rw (c .before .before .match .keys5, c .before .zero-of4 .ensures)
 returns-6 : tie.Need-returns-6
 unfolding sampleFits
 returns-6 c =
-    let n = c .match .rest in
-    let k = c .before .args .x .kind in
+    let n = c .match .rest in let k = c .before .args .x .kind in
     rw (ne-eqb k 1 (n .0 .0 .0 .1), lt-leb k 4 (omega (arith, past-all 5 k n)))
 
 pub sample-ok-spec : {M : Type 1} → statement M

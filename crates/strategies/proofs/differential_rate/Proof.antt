@@ -16,11 +16,11 @@ returns-2 c = rw (c .before .before .before .difference .given .1, c .enum-told2
 
 returns-3 : tie.Need-returns-3
 unfolding made any strategyBy
-returns-3 c = rw (c .before .before .before .before .before .before .difference .given .1, c .before .before .before .shortest .given .1, c .enum-told3 .given .1)
+returns-3 c = let c1 = c .before .before .before in let c2 = c1 .before .before .before in rw (c2 .difference .given .1, c1 .shortest .given .1, c .enum-told3 .given .1)
 
 returns-4 : tie.Need-returns-4
 unfolding made any strategyBy
-returns-4 c = rw (c .before .before .before .before .before .before .before .difference .given .1, c .before .before .before .before .shortest .given .1, c .before .longest .given .1)
+returns-4 c = let c1 = c .before .before .before .before in let c2 = c1 .before .before .before in rw (c2 .difference .given .1, c1 .shortest .given .1, c .before .longest .given .1)
 
 pub differential-rate-spec : {M : Type 1} → statement M
 differential-rate-spec =

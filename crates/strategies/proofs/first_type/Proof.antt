@@ -18,8 +18,9 @@ first c =
 
 returns : tie.Need-returns
 returns c =
-    let start = c .before .before .before .before .before in
-    c .type-if .ensures ∙ (type-at (start .args .t1) _ (start .good .0) _ ∙ ap (λ (j : ℕ). sensorOf (start .args .t1) j .kind) (first (c .before .before .before)))
+    let c1 = c .before .before .before in let c2 = c1 .before .before in
+    let start = c2 in
+    c .type-if .ensures ∙ (type-at (start .args .t1) _ (start .good .0) _ ∙ ap (λ (j : ℕ). sensorOf (start .args .t1) j .kind) (first c1))
 
 pub first-type-spec : {M : Type 1} → statement M
 first-type-spec =

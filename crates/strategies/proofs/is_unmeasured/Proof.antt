@@ -18,19 +18,12 @@ Inv-loop places sheet found₀ k₀ found k = Found (λ j. not (isMeasured (sens
 abbrev μ-loop : tie.MeasureT-loop
 μ-loop places sheet found₀ k₀ found k = length places - k
 
-loop-holds : tie.Need-loop-holds Inv-loop μ-loop
-loop-holds c = found-none _ _
-
 loop-again : tie.Need-loop-again Inv-loop μ-loop
 loop-again c =
-    let s = c .before .before .before .before in
-    let start = s .before .before .before in
+    let s = c .before .before .before .before in let start = s .before .before .before in
     found-on (s .before .loop .inv) 0 _ (s .loop-test .taken)
     (ap not (c .is-measured .ensures ∙ ap isMeasured (c .before .type-if .ensures ∙ type-at (start .args .t1) _ (start .good .0) _)))
 
-returns : tie.Need-returns Inv-loop μ-loop
-returns c = found-all (c .before .loop .inv) (omega arith)
-
 pub is-unmeasured-spec : {M : Type 1} → statement M
 is-unmeasured-spec =
-    tie.close (tie.spec Inv-loop μ-loop loop-holds (λ c. omega arith) (λ c. search needs) (λ c. search needs) (λ c. search needs) (λ c κs. search needs) (λ c κs. search needs) (λ c. omega arith) (λ c. omega arith) loop-again returns)
+    tie.close (tie.spec Inv-loop μ-loop (λ c. found-none _ _) (λ c. omega arith) (λ c. search needs) (λ c. search needs) (λ c. search needs) (λ c κs. search needs) (λ c κs. search needs) (λ c. omega arith) (λ c. omega arith) loop-again (λ c. found-all (c .before .loop .inv) (omega arith)))

@@ -16,28 +16,14 @@ Inv-loop places text sheet found₀ k₀ found k = Found (λ j. isBad (differenc
 abbrev μ-loop : tie.MeasureT-loop
 μ-loop places text sheet found₀ k₀ found k = length places - k
 
-loop-holds : tie.Need-loop-holds Inv-loop μ-loop
-loop-holds c = found-none _ _
-
-shared-slice-read-j : tie.Need-shared-slice-read-j Inv-loop μ-loop
-shared-slice-read-j c = omega arith
-
-add-k : tie.Need-add-k Inv-loop μ-loop
-add-k c = omega arith
-
-loop-less : tie.Need-loop-less Inv-loop μ-loop
-loop-less c = omega arith
-
 loop-again : tie.Need-loop-again Inv-loop μ-loop
 unfolding differenceFor
 loop-again c =
-    let start = c .before .before .before .before .before .before .before .before .before in
-    found-on (c .before .before .before .before .before .before .loop .inv) 0 _ (c .before .before .before .before .before .loop-test .taken)
+    let c1 = c .before .before .before in let c2 = c1 .before .before in let c3 = c2 .before in let c4 = c3 .before .before .before in
+    let start = c4 in
+    found-on (c3 .loop .inv) 0 _ (c2 .loop-test .taken)
     (rw (c .is-bad .ensures, c .before .difference-for .ensures, c .before .before .type-if .ensures, type-at (start .args .t1) _ (start .good .0) _))
-
-returns : tie.Need-returns Inv-loop μ-loop
-returns c = found-all (c .before .loop .inv) (omega arith)
 
 pub is-unsuited-spec : {M : Type 1} → statement M
 is-unsuited-spec =
-    tie.close (tie.spec Inv-loop μ-loop loop-holds shared-slice-read-j (λ c. search needs) (λ c. search needs) (λ c. search needs) (λ c κs. search needs) (λ c κs. search needs) (λ c κs. search needs) add-k loop-less loop-again returns)
+    tie.close (tie.spec Inv-loop μ-loop (λ c. found-none _ _) (λ c. omega arith) (λ c. search needs) (λ c. search needs) (λ c. search needs) (λ c κs. search needs) (λ c κs. search needs) (λ c κs. search needs) (λ c. omega arith) (λ c. omega arith) loop-again (λ c. found-all (c .before .loop .inv) (omega arith)))

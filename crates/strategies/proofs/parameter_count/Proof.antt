@@ -6,9 +6,7 @@ use borrow.Author.Needs.{needs}
 use Rattle.strategies.proofs.parameter_count.Statement.{statement}
 use Rattle.strategies.proofs.parameter_count.Tie as tie
 
-returns-7 : tie.Need-returns-7
-returns-7 c = rw (List·getD-eq-default {A = ℕ} _ 3 (past-all 6 (c .before .args .kind) (c .match .rest)))
-
 pub parameter-count-spec : {M : Type 1} → statement M
 parameter-count-spec =
-    tie.close (tie.spec (λ c. search needs) (λ c. search needs) (λ c. search needs) (λ c. search needs) (λ c. search needs) (λ c. search needs) returns-7)
+    tie.close (tie.spec (λ c. search needs) (λ c. search needs) (λ c. search needs) (λ c. search needs) (λ c. search needs) (λ c. search needs)
+    (λ c. rw (List·getD-eq-default {A = ℕ} _ 3 (past-all 6 (c .before .args .kind) (c .match .rest)))))

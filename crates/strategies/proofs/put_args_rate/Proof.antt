@@ -5,9 +5,7 @@ use Rattle.output.proofs.OutputLaws.{alone}
 use Rattle.strategies.proofs.put_args_rate.Statement.{statement}
 use Rattle.strategies.proofs.put_args_rate.Tie as tie
 
-returns : tie.Need-returns
-returns c = then (c .before .before .before .before .before .before .put-arg-time .ensures) (alone (c .before .before .put-arg-time2 .ensures))
-
 pub put-args-rate-spec : {M : Type 1} → statement M
 put-args-rate-spec =
-    tie.close (tie.spec (λ c κs. search needs) (λ c κs. search needs) (λ c. search needs) returns)
+    tie.close (tie.spec (λ c κs. search needs) (λ c κs. search needs) (λ c. search needs)
+    (λ c. let c1 = c .before .before in let c2 = c1 .before .before .before .before in then (c2 .put-arg-time .ensures) (alone (c1 .put-arg-time2 .ensures))))

@@ -16,8 +16,7 @@ unfolding isToRepeat
 counted (pos n) read error same h = rw same
 counted (negsuc n) read error same h = absurd h
 
-returns : tie.Need-returns
-returns c = λ h. c .before .before .is-to-repeat .ensures ∙ counted (c .before .before .before .before .args .got) _ _ (toZ-ofZ (c .before .before .before .before .fits .got)) h
-
 pub again-spec : {M : Type 1} → statement M
-again-spec = tie.close (tie.spec (λ c κs. search needs) (λ c κs. search needs) (λ c κs. search needs) returns (λ c. search needs))
+again-spec = tie.close (tie.spec (λ c κs. search needs) (λ c κs. search needs) (λ c κs. search needs)
+    (λ c. λ h. c .before .before .is-to-repeat .ensures ∙ counted (c .before .before .before .before .args .got) _ _ (toZ-ofZ (c .before .before .before .before .fits .got)) h)
+    (λ c. search needs))

@@ -24,8 +24,6 @@ unfolding isToRepeat
 by-sign (pos n) error = rw (le-ltb n 0 (omega arith))
 by-sign (negsuc n) error = refl
 
-returns : tie.Need-returns
-returns c = rw (toZ-ofZ (c .fits .got), by-bits (c .args .error) (c .fits .error)) (by-sign (c .args .got) (c .args .error))
-
 pub is-to-repeat-spec : {M : Type 1} → statement M
-is-to-repeat-spec = tie.close (tie.spec returns)
+is-to-repeat-spec = tie.close (tie.spec
+    (λ c. rw (toZ-ofZ (c .fits .got), by-bits (c .args .error) (c .fits .error)) (by-sign (c .args .got) (c .args .error))))

@@ -14,8 +14,6 @@ use Rattle.stream.proofs.print.Tie as tie
 of-none : (bytes : List ℕ) (taken : ℕ) → taken ≤ length bytes → bytes ≡ [] → eqb taken (length bytes) ≡ true
 of-none bytes taken h e = eq-eqb taken (length bytes) (omega (arith, ap length e))
 
-returns : tie.Need-returns
-returns c = of-none (c .before .before .args .bytes .now) (c .write-all .result) (c .write-all .ensures)
-
 pub print-spec : {M : Type 1} → statement M
-print-spec = tie.close (tie.spec (λ c κs. search needs) returns)
+print-spec = tie.close (tie.spec (λ c κs. search needs)
+    (λ c. of-none (c .before .before .args .bytes .now) (c .write-all .result) (c .write-all .ensures)))

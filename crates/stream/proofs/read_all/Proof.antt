@@ -13,9 +13,6 @@ Inv-loop fd buf₀ from₀ held₀ buf from held = (from ≤ held .to) × ((held
 abbrev μ-loop : tie.MeasureT-loop
 μ-loop fd buf₀ from₀ held₀ buf from held = length buf - from
 
-returns-2 : tie.Need-returns-2 Inv-loop μ-loop
-returns-2 c = (counts _ _ (search needs), search needs)
-
 pub read-all-spec : {M : Type 1} → statement M
 read-all-spec =
-    tie.close (tie.spec Inv-loop μ-loop (λ c κs. search needs) (λ c. search needs) (λ c κs. search needs) (λ c. search needs) (λ c. search needs) (λ c. search needs) (λ c. search needs) (λ c. search needs) returns-2 (λ c. search needs) (λ c. search needs))
+    tie.close (tie.spec Inv-loop μ-loop (λ c κs. search needs) (λ c. search needs) (λ c κs. search needs) (λ c. search needs) (λ c. search needs) (λ c. search needs) (λ c. search needs) (λ c. search needs) (λ c. (counts _ _ (search needs), search needs)) (λ c. search needs) (λ c. search needs))

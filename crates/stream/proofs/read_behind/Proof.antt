@@ -20,21 +20,17 @@ abbrev μ-loop : tie.MeasureT-loop
 some : (c : tie.In-loop Inv-loop μ-loop) → 0 < c .before .loop .turns
 some c = let turn = c .before .loop in turn-left (turn .repeat) (turn .turns) (c .loop-test .taken)
 
-sub-turns : tie.Need-sub-turns Inv-loop μ-loop
-sub-turns c = omega (arith, some (c .before .before .before .before .before))
-
-loop-less : tie.Need-loop-less Inv-loop μ-loop
-loop-less c = omega (arith, some (c .before .before .before .before .before))
-
 loop-again : tie.Need-loop-again Inv-loop μ-loop
 loop-again c =
-    let turn = c .before .before .before .before .before .before in
+    let c1 = c .before .before .before in let c2 = c1 .before .before .before in
+    let turn = c2 in
     let start = turn .before .before in
-    (search needs, take-put (start .args .to) (length (turn .loop .buf) - start .args .to) (turn .loop .buf) (c .before .before .before .read .last .1 .0) (search needs) ∙ turn .loop .inv .1)
-
-returns-2 : tie.Need-returns-2 Inv-loop μ-loop
-returns-2 c = record { forward = search needs; fits = search needs; size = search needs; front = search needs; none = λ e. absurd (subst T (sym e) tt) }
+    (search needs, take-put (start .args .to) (length (turn .loop .buf) - start .args .to) (turn .loop .buf) (c1 .read .last .1 .0) (search needs) ∙ turn .loop .inv .1)
 
 pub read-behind-spec : {M : Type 1} → statement M
 read-behind-spec =
-    tie.close (tie.spec Inv-loop μ-loop (λ c. search needs) (λ c. search needs) (λ c. search needs) (λ c. search needs) (λ c κs. search needs) (λ c κs. search needs) sub-turns loop-less loop-again (λ c. search needs) (λ c. search needs) (λ c. search needs) (λ c. search needs) (λ c. search needs) (λ c κs. search needs) (λ c. search needs) (λ c. search needs) returns-2)
+    tie.close (tie.spec Inv-loop μ-loop (λ c. search needs) (λ c. search needs) (λ c. search needs) (λ c. search needs) (λ c κs. search needs) (λ c κs. search needs)
+    (λ c. let c1 = c .before .before .before in let c2 = c1 .before .before in omega (arith, some c2))
+    (λ c. let c1 = c .before .before .before in let c2 = c1 .before .before in omega (arith, some c2))
+    loop-again (λ c. search needs) (λ c. search needs) (λ c. search needs) (λ c. search needs) (λ c. search needs) (λ c κs. search needs) (λ c. search needs) (λ c. search needs)
+    (λ c. record { forward = search needs; fits = search needs; size = search needs; front = search needs; none = λ e. absurd (subst T (sym e) tt) }))

@@ -18,12 +18,9 @@ abbrev μ-loop : tie.MeasureT-loop
 some : (c : tie.In-loop Inv-loop μ-loop) → 0 < c .before .loop .turns
 some c = let turn = c .before .loop in turn-left (ltb (turn .at) (length (c .before .before .before .args .bytes .now))) (turn .turns) (c .loop-test .taken)
 
-sub-turns : tie.Need-sub-turns Inv-loop μ-loop
-sub-turns c = omega (arith, some (c .before .before .before .before .before .before))
-
-loop-less : tie.Need-loop-less Inv-loop μ-loop
-loop-less c = omega (arith, some (c .before .before .before .before .before .before))
-
 pub write-all-spec : {M : Type 1} → statement M
 write-all-spec =
-    tie.close (tie.spec Inv-loop μ-loop (λ c. search needs) (λ c. search needs) (λ c. search needs) (λ c. search needs) (λ c κs. search needs) (λ c κs. search needs) (λ c. search needs) (λ c. search needs) (λ c. search needs) (λ c κs. search needs) (λ c. search needs) (λ c. search needs) sub-turns loop-less (λ c. search needs) (λ c. search needs))
+    tie.close (tie.spec Inv-loop μ-loop (λ c. search needs) (λ c. search needs) (λ c. search needs) (λ c. search needs) (λ c κs. search needs) (λ c κs. search needs) (λ c. search needs) (λ c. search needs) (λ c. search needs) (λ c κs. search needs) (λ c. search needs) (λ c. search needs)
+    (λ c. let c1 = c .before .before .before in let c2 = c1 .before .before .before in omega (arith, some c2))
+    (λ c. let c1 = c .before .before .before in let c2 = c1 .before .before .before in omega (arith, some c2))
+    (λ c. search needs) (λ c. search needs))

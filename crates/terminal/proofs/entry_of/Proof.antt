@@ -12,16 +12,13 @@ returns c = rw (lt-ltb 2048 _ (c .if1 .taken))
 returns-2 : tie.Need-returns-2
 unfolding entryOf
 returns-2 c =
-    let c2 = c .before in
-    let c1 = c2 .before .before .before in
+    let c2 = c .before in let c1 = c2 .before .before .before in
     rw (le-ltb 2048 _ (c1 .if1 .left), ← c2 .before .has-words .ensures, c2 .if2 .taken) (c .tick-entry .ensures)
 
 returns-3 : tie.Need-returns-3
 unfolding entryOf
 returns-3 c =
-    let c3 = c .before in
-    let c2 = c3 .before .before .before in
-    let c1 = c2 .before .before .before in
+    let c3 = c .before in let c2 = c3 .before .before .before in let c1 = c2 .before .before .before in
     rw (
       le-ltb 2048 _ (c1 .if1 .left),
       ← c2 .before .has-words .ensures,
@@ -33,8 +30,7 @@ returns-3 c =
 returns-4 : tie.Need-returns-4
 unfolding entryOf
 returns-4 c =
-    let c2 = c .before .before .before in
-    let c1 = c2 .before .before .before in
+    let c2 = c .before .before .before in let c1 = c2 .before .before .before in
     rw (
       le-ltb 2048 _ (c1 .if1 .left),
       ← c2 .before .has-words .ensures,

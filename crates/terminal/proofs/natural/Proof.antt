@@ -7,14 +7,12 @@ use Rattle.terminal.proofs.natural.Statement.{statement}
 use Rattle.terminal.proofs.natural.Tie as tie
 
 returns : tie.Need-returns
-returns c = natural-bad (c .before .before .before .before .before .before .args .t .now) (readDecimal (c .before .before .before .before .before .before .args .t .now)) _ (sym (c .before .before .enum-told .given .1) ∙ c .before .before .before .before .read-decimal .ensures) (sym (c .before .is-natural .ensures) ∙ c .if1 .taken)
+returns c = let c1 = c .before .before .before .before in let c2 = c1 .before .before in natural-bad (c2 .args .t .now) (readDecimal (c2 .args .t .now)) _ (sym (c .before .before .enum-told .given .1) ∙ c1 .read-decimal .ensures) (sym (c .before .is-natural .ensures) ∙ c .if1 .taken)
 
 returns-2 : tie.Need-returns-2
-returns-2 c = natural-bad (c .before .before .before .before .before .before .args .t .now) (readDecimal (c .before .before .before .before .before .before .args .t .now)) _ (sym (c .before .before .enum-told .given .1) ∙ c .before .before .before .before .read-decimal .ensures) (sym (c .before .is-natural .ensures) ∙ c .if1 .left)
-
-returns-3 : tie.Need-returns-3
-returns-3 c = natural-is (c .before .before .before .before .before .args .t .now) (readDecimal (c .before .before .before .before .before .args .t .now)) _ (sym (c .before .n .given .1) ∙ c .before .before .before .read-decimal .ensures)
+returns-2 c = let c1 = c .before .before .before .before in let c2 = c1 .before .before in natural-bad (c2 .args .t .now) (readDecimal (c2 .args .t .now)) _ (sym (c .before .before .enum-told .given .1) ∙ c1 .read-decimal .ensures) (sym (c .before .is-natural .ensures) ∙ c .if1 .left)
 
 pub natural-spec : {M : Type 1} → statement M
 natural-spec =
-    tie.close (tie.spec (λ c κs. search needs) (λ c. search needs) (λ c. search needs) (λ c κs. search needs) returns returns-2 returns-3)
+    tie.close (tie.spec (λ c κs. search needs) (λ c. search needs) (λ c. search needs) (λ c κs. search needs) returns returns-2
+    (λ c. let c1 = c .before .before .before in let c2 = c1 .before .before in natural-is (c2 .args .t .now) (readDecimal (c2 .args .t .now)) _ (sym (c .before .n .given .1) ∙ c .before .before .before .read-decimal .ensures)))

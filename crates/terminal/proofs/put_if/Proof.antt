@@ -4,11 +4,7 @@ use Rattle.output.proofs.OutputLaws.{blank}
 use Rattle.terminal.proofs.put_if.Statement.{statement}
 use Rattle.terminal.proofs.put_if.Tie as tie
 
-returns : tie.Need-returns
-returns c = rw (c .before .before .before .before .if1 .taken) (c .before .before .put-bytes .ensures)
-
-returns-2 : tie.Need-returns-2
-returns-2 c = rw (c .if1 .left) blank
-
 pub put-if-spec : {M : Type 1} → statement M
-put-if-spec = tie.close (tie.spec (λ c κs. search needs) (λ c. search needs) returns returns-2)
+put-if-spec = tie.close (tie.spec (λ c κs. search needs) (λ c. search needs)
+    (λ c. rw (c .before .before .before .before .if1 .taken) (c .before .before .put-bytes .ensures))
+    (λ c. rw (c .if1 .left) blank))

@@ -7,24 +7,12 @@ use Rattle.texts.proofs.BeforeLaws as laws
 use Rattle.texts.proofs.behind.Statement.{statement}
 use Rattle.texts.proofs.behind.Tie as tie
 
-returns : tie.Need-returns
-returns c = let a = c .before .before .before .before .args in laws.behind-none (a .stop) (a .s .now) (c .before .before .len-before .result) (c .before .before .len-before .ensures) (c .before .if1 .taken)
-
 within : (c : tie.Else1) → c .before .len-before .result ≤ length (c .before .before .before .args .s .now)
 within c = let a = c .before .before .before .args in laws.before-within (a .stop) (a .s .now) (c .before .len-before .result) (c .before .len-before .ensures)
 
-add-after : tie.Need-add-after
-add-after c = omega (arith, within c)
-
-sub-result-2 : tie.Need-sub-result-2
-sub-result-2 c = omega (arith, within c)
-
-part-result-start-2 : tie.Need-part-result-start-2
-part-result-start-2 c = omega (arith, within c)
-
-returns-2 : tie.Need-returns-2
-returns-2 c = let a = c .before .before .before .before .args in laws.behind-some (a .stop) (a .s .now) (c .before .before .len-before .result) (c .before .before .len-before .ensures)
-
 pub behind-spec : {M : Type 1} → statement M
 behind-spec =
-    tie.close (tie.spec (λ c κs. search needs) (λ c. search needs) (λ c. search needs) (λ c. search needs) returns add-after sub-result-2 part-result-start-2 (λ c. search needs) returns-2)
+    tie.close (tie.spec (λ c κs. search needs) (λ c. search needs) (λ c. search needs) (λ c. search needs)
+    (λ c. let a = c .before .before .before .before .args in laws.behind-none (a .stop) (a .s .now) (c .before .before .len-before .result) (c .before .before .len-before .ensures) (c .before .if1 .taken))
+    (λ c. omega (arith, within c)) (λ c. omega (arith, within c)) (λ c. omega (arith, within c)) (λ c. search needs)
+    (λ c. let a = c .before .before .before .before .args in laws.behind-some (a .stop) (a .s .now) (c .before .before .len-before .result) (c .before .before .len-before .ensures)))

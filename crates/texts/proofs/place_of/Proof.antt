@@ -22,7 +22,7 @@ abbrev μ-loop : tie.MeasureT-loop
 μ-loop table word k₀ from₀ k from = length table + 1 - from
 
 -- the word at hand lies within the table
-within : (c : tie.After-len-before Inv-loop μ-loop) → c .before .before .before .loop .from + c .len-before .result ≤ length (c .before .before .before .before .before .before .args .table .now)
+within : (c : tie.After-len-before Inv-loop μ-loop) → let c1 = c .before .before .before in let c2 = c1 .before .before .before in c1 .loop .from + c .len-before .result ≤ length (c2 .args .table .now)
 within c = walk-within (places _) _ (c .before .before .before .loop .inv) (omega arith) (c .len-before .ensures)
 
 -- the word at hand, by its length
@@ -32,17 +32,13 @@ taken from n t word e f = let i : from + n - from ≡ n = omega arith in sym (rw
 returns : tie.Need-returns Inv-loop μ-loop
 unfolding placeOf
 returns c =
-    let l = c .before .before .before in
-    let turn = l .before .before .before in
-    let a = turn .before .before .before .args in
+    let l = c .before .before .before in let turn = l .before .before .before in let a = turn .before .before .before .args in
     let s = taken (turn .loop .from) (l .len-before .result) (a .table .now) (a .word .now) (c .before .same .ensures) (c .if1 .taken) in
     walk-here (places _) _ (turn .loop .inv) (omega arith) (l .len-before .ensures) (λ ws. rw s)
 
 loop-again : tie.Need-loop-again Inv-loop μ-loop
 loop-again c =
-    let l = c .before .before .before in
-    let turn = l .before .before .before in
-    let a = turn .before .before .before .args in
+    let l = c .before .before .before in let turn = l .before .before .before in let a = turn .before .before .before .args in
     let s = taken (turn .loop .from) (l .len-before .result) (a .table .now) (a .word .now) (c .before .same .ensures) (c .if1 .left) in
     walk-on (places _) _ (turn .loop .inv) (omega arith) (l .len-before .ensures) (λ ws. rw s)
 
@@ -52,6 +48,4 @@ returns-2 c = walk-end (places _) _ (c .before .loop .inv) (omega arith) refl
 
 pub place-of-spec : {M : Type 1} → statement M
 place-of-spec =
-    tie.close (tie.spec Inv-loop μ-loop (λ c. walking (places _) _) (λ c. search needs) (λ c. search needs) (λ c. search needs) (λ c κs. search needs)
-    (λ c. let h = within c in search needs) (λ c. let h = within c in search needs) (λ c. let h = within c in search needs) (λ c. let h = within c in search needs) (λ c κs. search needs) returns
-    (λ c. let h = within (c .before .before .before) in search needs) (λ c. let h = within (c .before .before .before) in search needs) (λ c. let h = within (c .before .before .before) in search needs) loop-again returns-2)
+    tie.close (tie.spec Inv-loop μ-loop (λ c. walking (places _) _) (λ c. search needs) (λ c. search needs) (λ c. search needs) (λ c κs. search needs) (λ c. let h = within c in search needs) (λ c. let h = within c in search needs) (λ c. let h = within c in search needs) (λ c. let h = within c in search needs) (λ c κs. search needs) returns (λ c. let h = within (c .before .before .before) in search needs) (λ c. let h = within (c .before .before .before) in search needs) (λ c. let h = within (c .before .before .before) in search needs) loop-again returns-2)

@@ -19,18 +19,14 @@ abbrev μ-loop : tie.MeasureT-loop
 
 returns : tie.Need-returns Inv-loop μ-loop
 returns c =
-    let turn = c .before .before .before .before in
-    let a = turn .before .before .args in
+    let turn = c .before .before .before .before in let a = turn .before .before .args in
     omega (arith, run-stops (inClass (a .class)) (a .s .now) (turn .loop .i) (omega arith) (sym (c .before .in-class .ensures) ∙ not-true _ (c .if1 .taken)))
 
 loop-again : tie.Need-loop-again Inv-loop μ-loop
 loop-again c =
-    let turn = c .before .before .before .before in
-    let a = turn .before .before .args in
+    let turn = c .before .before .before .before in let a = turn .before .before .args in
     omega (arith, run-goes (inClass (a .class)) (a .s .now) (turn .loop .i) (omega arith) (sym (c .before .in-class .ensures) ∙ not-false _ (c .if1 .left)))
 
-returns-2 : tie.Need-returns-2 Inv-loop μ-loop
-returns-2 c = let a = c .before .before .before .args in omega (arith, run-over (inClass (a .class)) (a .s .now) (c .before .loop .i) (omega arith))
-
 pub run-len-spec : {M : Type 1} → statement M
-run-len-spec = tie.close (tie.spec Inv-loop μ-loop (λ c. omega arith) (λ c. search needs) (λ c κs. search needs) returns (λ c. search needs) (λ c. search needs) loop-again returns-2)
+run-len-spec = tie.close (tie.spec Inv-loop μ-loop (λ c. omega arith) (λ c. search needs) (λ c κs. search needs) returns (λ c. search needs) (λ c. search needs) loop-again
+    (λ c. let a = c .before .before .before .args in omega (arith, run-over (inClass (a .class)) (a .s .now) (c .before .loop .i) (omega arith))))

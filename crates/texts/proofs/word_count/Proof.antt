@@ -15,14 +15,11 @@ abbrev μ-loop : tie.MeasureT-loop
 μ-loop table k₀ from₀ k from = length table + 1 - from
 
 -- the word at hand lies within the table
-within : (c : tie.After-len-before Inv-loop μ-loop) → c .before .before .before .loop .from + c .len-before .result ≤ length (c .before .before .before .before .before .args .table .now)
+within : (c : tie.After-len-before Inv-loop μ-loop) → let c1 = c .before .before .before in let c2 = c1 .before .before in c1 .loop .from + c .len-before .result ≤ length (c2 .args .table .now)
 within c = walk-within length _ (c .before .before .before .loop .inv) (omega arith) (c .len-before .ensures)
-
-loop-again : tie.Need-loop-again Inv-loop μ-loop
-loop-again c = walk-on length _ (c .before .before .before .loop .inv) (omega arith) (c .len-before .ensures) (λ ws. refl)
 
 pub word-count-spec : {M : Type 1} → statement M
 word-count-spec =
-    tie.close (tie.spec Inv-loop μ-loop (λ c. walking length _) (λ c. search needs) (λ c. search needs) (λ c. search needs) (λ c κs. search needs)
-    (λ c. let h = within c in search needs) (λ c. let h = within c in search needs) (λ c. let h = within c in search needs) (λ c. let h = within c in search needs) loop-again
+    tie.close (tie.spec Inv-loop μ-loop (λ c. walking length _) (λ c. search needs) (λ c. search needs) (λ c. search needs) (λ c κs. search needs) (λ c. let h = within c in search needs) (λ c. let h = within c in search needs) (λ c. let h = within c in search needs) (λ c. let h = within c in search needs)
+    (λ c. walk-on length _ (c .before .before .before .loop .inv) (omega arith) (c .len-before .ensures) (λ ws. refl))
     (λ c. walk-end length _ (c .before .loop .inv) (omega arith) refl))

@@ -9,17 +9,7 @@ use Rattle.value.proofs.SignedLaws.{cast-fits, sum-fits, stored-is, sto
 use Rattle.value.proofs.biased_integer.Statement.{statement}
 use Rattle.value.proofs.biased_integer.Tie as tie
 
-cast-result : tie.Need-cast-result
-cast-result c = cast-fits (c .args .x) (c .fits .x)
-
-add-result : tie.Need-add-result
-add-result c = sum-fits (c .args .x) (c .fits .x)
-
-cast-result-2 : tie.Need-cast-result-2
-cast-result-2 c = subst (λ (k : ℤ). T (nonNeg k) × Fits w64 (natAbs k)) (sym (stored-is (c .args .x) (c .fits .x))) (stored-fits (c .args .x) (c .fits .x))
-
-returns : tie.Need-returns
-returns c = ap natAbs (stored-is (c .args .x) (c .fits .x))
-
 pub biased-integer-spec : {M : Type 1} → statement M
-biased-integer-spec = tie.close (tie.spec cast-result add-result cast-result-2 returns)
+biased-integer-spec = tie.close (tie.spec (λ c. cast-fits (c .args .x) (c .fits .x)) (λ c. sum-fits (c .args .x) (c .fits .x))
+    (λ c. subst (λ (k : ℤ). T (nonNeg k) × Fits w64 (natAbs k)) (sym (stored-is (c .args .x) (c .fits .x))) (stored-fits (c .args .x) (c .fits .x)))
+    (λ c. ap natAbs (stored-is (c .args .x) (c .fits .x))))

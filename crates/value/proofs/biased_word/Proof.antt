@@ -6,12 +6,8 @@ use Rattle.value.proofs.SignedLaws.{word-low, word-high}
 use Rattle.value.proofs.biased_word.Statement.{statement}
 use Rattle.value.proofs.biased_word.Tie as tie
 
-returns : tie.Need-returns
-returns c = word-low (word (c .before .args .a) (c .before .args .b) (c .before .args .c) (c .before .args .d)) (c .if1 .taken)
-
-returns-2 : tie.Need-returns-2
-returns-2 c = word-high (word (c .before .args .a) (c .before .args .b) (c .before .args .c) (c .before .args .d)) (omega arith) (c .if1 .left)
-
 pub biased-word-spec : {M : Type 1} → statement M
 biased-word-spec =
-    tie.close (tie.spec (λ c. search needs) (λ c. search needs) (λ c. search needs) (λ c. search needs) (λ c. search needs) (λ c. search needs) (λ c. search needs) returns returns-2)
+    tie.close (tie.spec (λ c. search needs) (λ c. search needs) (λ c. search needs) (λ c. search needs) (λ c. search needs) (λ c. search needs) (λ c. search needs)
+    (λ c. word-low (word (c .before .args .a) (c .before .args .b) (c .before .args .c) (c .before .args .d)) (c .if1 .taken))
+    (λ c. word-high (word (c .before .args .a) (c .before .args .b) (c .before .args .c) (c .before .args .d)) (omega arith) (c .if1 .left)))

@@ -18,11 +18,6 @@ returns : tie.Need-returns
 unfolding ofDouble
 returns c = sym (ap exact1024 (differs-from-itself (c .before .args .x) (subst T (sym (c .if1 .taken)) tt)))
 
-float-to-bits-bits : tie.Need-float-to-bits-bits
-float-to-bits-bits c = no-nan (c .before .args .x) (c .if1 .left)
-
-returns-2 : tie.Need-returns-2
-returns-2 c = c .fit-bits .ensures ∙ ap exact1024 (ofBits-toBits binary64 (c .before .before .args .x) (held (c .before .before)))
-
 pub exact-1024ths-spec : {M : Type 1} → statement M
-exact-1024ths-spec = tie.close (tie.spec returns float-to-bits-bits (λ c κs. search needs) returns-2)
+exact-1024ths-spec = tie.close (tie.spec returns (λ c. no-nan (c .before .args .x) (c .if1 .left)) (λ c κs. search needs)
+    (λ c. c .fit-bits .ensures ∙ ap exact1024 (ofBits-toBits binary64 (c .before .before .args .x) (held (c .before .before)))))

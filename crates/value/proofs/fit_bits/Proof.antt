@@ -6,15 +6,9 @@ use Rattle.value.proofs.BitLaws.{whole-same, whole-big, bits-low, bits-
 use Rattle.value.proofs.fit_bits.Statement.{statement}
 use Rattle.value.proofs.fit_bits.Tie as tie
 
-returns : tie.Need-returns
-returns c = c .fit-whole .ensures ∙ sym (bits-low wholeOf whole-same whole-big _ (c .before .if1 .taken))
-
-returns-2 : tie.Need-returns-2
-returns-2 c = sym (bits-high wholeOf whole-same whole-big _ (c .if2 .taken))
-
-returns-3 : tie.Need-returns-3
-returns-3 c = c .fit-whole2 .ensures ∙ sym (bits-mid wholeOf whole-same whole-big _ (c .before .before .if1 .left) (c .before .if2 .left))
-
 pub fit-bits-spec : {M : Type 1} → statement M
 fit-bits-spec =
-    tie.close (tie.spec (λ c κs. search needs) returns returns-2 (λ c. search needs) (λ c. search needs) (λ c κs. search needs) returns-3)
+    tie.close (tie.spec (λ c κs. search needs)
+    (λ c. c .fit-whole .ensures ∙ sym (bits-low wholeOf whole-same whole-big _ (c .before .if1 .taken)))
+    (λ c. sym (bits-high wholeOf whole-same whole-big _ (c .if2 .taken))) (λ c. search needs) (λ c. search needs) (λ c κs. search needs)
+    (λ c. c .fit-whole2 .ensures ∙ sym (bits-mid wholeOf whole-same whole-big _ (c .before .before .if1 .left) (c .before .if2 .left))))

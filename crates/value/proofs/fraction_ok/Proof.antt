@@ -4,9 +4,6 @@ use borrow.Author.Needs.{needs}
 use Rattle.value.proofs.fraction_ok.Statement.{statement}
 use Rattle.value.proofs.fraction_ok.Tie as tie
 
-returns : tie.Need-returns
-returns c = fraction-none (c .before .before .args .s .now) (c .if1 .taken)
-
 returns-2 : tie.Need-returns-2
 returns-2 c =
     let b = c .before .before in
@@ -14,4 +11,4 @@ returns-2 c =
 
 pub fraction-ok-spec : {M : Type 1} → statement M
 fraction-ok-spec =
-    tie.close (tie.spec returns (λ c κs. search needs) (λ c. search needs) (λ c κs. search needs) returns-2)
+    tie.close (tie.spec (λ c. fraction-none (c .before .before .args .s .now) (c .if1 .taken)) (λ c κs. search needs) (λ c. search needs) (λ c κs. search needs) returns-2)

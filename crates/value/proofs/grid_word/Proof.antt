@@ -10,14 +10,9 @@ use Rattle.value.proofs.grid_word.Tie as tie
 abbrev number : tie.Start → ℤ
 number s = signed32 (word (s .args .a) (s .args .b) (s .args .c) (s .args .d))
 
-returns : tie.Need-returns
-returns c = too-low (number (c .before .before)) (c .before .biased-word .result) (c .before .biased-word .ensures) (c .if1 .taken)
-
-returns-2 : tie.Need-returns-2
-returns-2 c = too-high (number (c .before .before .before)) (c .before .before .biased-word .result) (c .before .before .biased-word .ensures) (c .if2 .taken)
-
-returns-3 : tie.Need-returns-3
-returns-3 c = in-grid (number (c .before .before .before)) (c .before .before .biased-word .result) (c .before .before .biased-word .ensures) (c .before .if1 .left) (c .if2 .left)
-
 pub grid-word-spec : {M : Type 1} → statement M
-grid-word-spec = tie.close (tie.spec (λ c κs. search needs) returns returns-2 (λ c. search needs) returns-3)
+grid-word-spec = tie.close (tie.spec (λ c κs. search needs)
+    (λ c. too-low (number (c .before .before)) (c .before .biased-word .result) (c .before .biased-word .ensures) (c .if1 .taken))
+    (λ c. too-high (number (c .before .before .before)) (c .before .before .biased-word .result) (c .before .before .biased-word .ensures) (c .if2 .taken))
+    (λ c. search needs)
+    (λ c. in-grid (number (c .before .before .before)) (c .before .before .biased-word .result) (c .before .before .biased-word .ensures) (c .before .if1 .left) (c .if2 .left)))

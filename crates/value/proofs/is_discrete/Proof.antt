@@ -11,23 +11,5 @@ use Rattle.value.proofs.is_discrete.Tie as tie
 abbrev isFour : ℕ → Bool
 isFour k = eqb k 4
 
-returns : tie.Need-returns
-returns c = ap isFour (sym (c .match .keys1))
-
-returns-2 : tie.Need-returns-2
-returns-2 c = ap isFour (sym (c .match .keys2))
-
-returns-3 : tie.Need-returns-3
-returns-3 c = ap isFour (sym (c .match .keys3))
-
-returns-4 : tie.Need-returns-4
-returns-4 c = ap isFour (sym (c .match .keys4))
-
-returns-5 : tie.Need-returns-5
-returns-5 c = ap isFour (sym (c .match .keys5))
-
-returns-6 : tie.Need-returns-6
-returns-6 c = sym (ne-eqb _ _ (c .match .rest .0 .1))
-
 pub is-discrete-spec : {M : Type 1} → statement M
-is-discrete-spec = tie.close (tie.spec returns returns-2 returns-3 returns-4 returns-5 returns-6)
+is-discrete-spec = tie.close (tie.spec (λ c. ap isFour (sym (c .match .keys1))) (λ c. ap isFour (sym (c .match .keys2))) (λ c. ap isFour (sym (c .match .keys3))) (λ c. ap isFour (sym (c .match .keys4))) (λ c. ap isFour (sym (c .match .keys5))) (λ c. sym (ne-eqb _ _ (c .match .rest .0 .1))))

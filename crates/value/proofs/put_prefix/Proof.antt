@@ -9,8 +9,5 @@ returns c =
     let c0 = c .before .before in
     said (c0 .put-bytes .ensures) (c0 .before .prefix .ensures)
 
-same-length : tie.Need-same-length
-same-length c = same (returns c)
-
 pub put-prefix-spec : {M : Type 1} → statement M
-put-prefix-spec = tie.close (tie.spec (λ c κs. search needs) (λ c κs. search needs) same-length returns)
+put-prefix-spec = tie.close (tie.spec (λ c κs. search needs) (λ c κs. search needs) (λ c. same (returns c)) returns)

@@ -31,7 +31,8 @@ is-plain c = sym (plain (c .before)) ∙ not-false _ (c .if1 .left)
 
 behind : (c : tie.After-behind-point) → c .behind-point .result .now ≡ fraction (start (c .before .before) .args .t .now)
 behind c =
-    let d = c .before .before .before .before .before .before in
+    let c1 = c .before .before .before in let c2 = c1 .before .before .before in
+    let d = c2 in
     fraction-is (d .before .before .args .t .now) (d .digits-len .result) (d .digits-len .ensures) (c .behind-point .result .now) (c .behind-point .ensures)
 
 short : (c : tie.Else2) → length (fraction (start (c .before .before .before) .args .t .now)) ≤ start (c .before .before .before) .args .places
@@ -47,17 +48,8 @@ args-of c = start (parts c .before .before .before)
 number : (c : tie.After-scaled2) → c .before .before .scaled .result + c .scaled2 .result ≡ counted (args-of c .args .places) (args-of c .args .t .now)
 number c =
     let b = parts c .before in
-    let d = b .before .before .before .before .before .before in
+    let da = b .before .before .before in let d = da .before .before .before in
     counted-is (d .before .before .args .t .now) (d .digits-len .result) (d .digits-len .ensures) (d .before .before .args .places) (b .behind-point .result .now) _ _ _ _ (behind b) (c .before .before .before .digits-value .ensures) (c .before .before .scaled .ensures) (c .before .digits-value2 .ensures) (c .scaled2 .ensures)
-
-slice-aggregate-whole : tie.Need-slice-aggregate-whole
-slice-aggregate-whole c = sym (length-take-le _ _ (within (c .before)))
-
-sub-behind : tie.Need-sub-behind
-sub-behind c = within (c .before)
-
-part-behind-start : tie.Need-part-behind-start
-part-behind-start c = within (c .before)
 
 returns : tie.Need-returns
 returns c =
@@ -68,10 +60,6 @@ returns-2 : tie.Need-returns-2
 returns-2 c =
     let s = start (c .before .before .before) .args in
     too-long (s .places) (s .least) (s .most) (s .t .now) (is-plain (c .before .before)) (omega (arith, c .if2 .taken, ap length (behind (c .before))))
-
-add-number : tie.Need-add-number
-add-number c =
-    omega (arith, number c, counted-below (args-of c .args .places) (args-of c .args .t .now) (args-of c .pre .0))
 
 returns-3 : tie.Need-returns-3
 returns-3 c =
@@ -87,4 +75,6 @@ returns-4 c =
 
 pub read-decimal-spec : {M : Type 1} → statement M
 read-decimal-spec =
-    tie.close (tie.spec (λ c κs. search needs) slice-aggregate-whole sub-behind part-behind-start (λ c. search needs) (λ c κs. search needs) (λ c κs. search needs) returns (λ c κs. search needs) returns-2 (λ c κs. search needs) (λ c κs. search needs) (λ c κs. search needs) (λ c. search needs) (λ c κs. search needs) add-number returns-3 returns-4)
+    tie.close (tie.spec (λ c κs. search needs) (λ c. sym (length-take-le _ _ (within (c .before)))) (λ c. within (c .before)) (λ c. within (c .before)) (λ c. search needs) (λ c κs. search needs) (λ c κs. search needs) returns (λ c κs. search needs) returns-2 (λ c κs. search needs) (λ c κs. search needs) (λ c κs. search needs) (λ c. search needs) (λ c κs. search needs)
+    (λ c. omega (arith, number c, counted-below (args-of c .args .places) (args-of c .args .t .now) (args-of c .pre .0)))
+    returns-3 returns-4)

@@ -4,11 +4,5 @@ use borrow.Author.Tests.{lt-ltb, le-ltb}
 use Rattle.value.proofs.sample_below.Statement.{statement}
 use Rattle.value.proofs.sample_below.Tie as tie
 
-returns : tie.Need-returns
-returns c = rw (lt-ltb _ _ (c .before .if1 .taken)) (c .valid-sample .ensures)
-
-returns-2 : tie.Need-returns-2
-returns-2 c = rw (le-ltb _ _ (c .if1 .left))
-
 pub sample-below-spec : {M : Type 1} → statement M
-sample-below-spec = tie.close (tie.spec (λ c κs. search needs) returns returns-2)
+sample-below-spec = tie.close (tie.spec (λ c κs. search needs) (λ c. rw (lt-ltb _ _ (c .before .if1 .taken)) (c .valid-sample .ensures)) (λ c. rw (le-ltb _ _ (c .if1 .left))))

@@ -15,18 +15,20 @@ use Rattle.value.proofs.sample_of.Tie as tie
 returns : tie.Need-returns
 unfolding sampleOf
 returns c =
-    let s = c .before .before .before .before .before .before in
-    let z = c .before .before .before .before .reading .given .0 .0 in
+    let c1 = c .before .before .before .before in let c2 = c1 .before .before in
+    let s = c2 in
+    let z = c1 .reading .given .0 .0 in
     c .only-for .ensures
     ∙ ap (onlyFor (s .args .kind) 1) (c .before .valid-sample .ensures ∙ ap valid (c .before .before .biased-integer .ensures))
     ∙ ap (λ (k : ℤ). onlyFor (s .args .kind) 1 (valid (biasedInteger k))) (toZ-ofZ w32 z (search needs))
     ∙ ap (λ (k : Bool). onlyFor (s .args .kind) 1 (cond k (valid (biasedInteger z)) Unfit)) (sym (fits-signed32 z (search needs)))
-    ∙ sym (ap (sampleOf (s .args .kind) (s .args .options)) (c .before .before .before .before .reading .given .1))
+    ∙ sym (ap (sampleOf (s .args .kind) (s .args .options)) (c1 .reading .given .1))
 
 returns-2 : tie.Need-returns-2
 unfolding sampleOf
 returns-2 c =
-    let s = c .before .before .before .before .before in
+    let c1 = c .before .before .before in let c2 = c1 .before .before in
+    let s = c2 in
     c .only-for2 .ensures
     ∙ ap (onlyFor (s .args .kind) 2) (c .before .float-sample .ensures)
     ∙ sym (ap (sampleOf (s .args .kind) (s .args .options)) (c .before .before .before .reading2 .given .1))
@@ -34,7 +36,8 @@ returns-2 c =
 returns-3 : tie.Need-returns-3
 unfolding sampleOf
 returns-3 c =
-    let s = c .before .before .before .before .before in
+    let c1 = c .before .before .before in let c2 = c1 .before .before in
+    let s = c2 in
     c .only-for3 .ensures
     ∙ ap (onlyFor (s .args .kind) 3) (c .before .sample-below .ensures)
     ∙ sym (ap (sampleOf (s .args .kind) (s .args .options)) (c .before .before .before .reading3 .given .1))
@@ -42,7 +45,8 @@ returns-3 c =
 returns-4 : tie.Need-returns-4
 unfolding sampleOf
 returns-4 c =
-    let s = c .before .before .before .before .before in
+    let c1 = c .before .before .before in let c2 = c1 .before .before in
+    let s = c2 in
     c .only-for4 .ensures
     ∙ ap (onlyFor (s .args .kind) 4) (c .before .sample-below2 .ensures)
     ∙ sym (ap (sampleOf (s .args .kind) (s .args .options)) (c .before .before .before .reading4 .given .1))
@@ -50,7 +54,8 @@ returns-4 c =
 returns-5 : tie.Need-returns-5
 unfolding sampleOf
 returns-5 c =
-    let s = c .before .before .before .before .before in
+    let c1 = c .before .before .before in let c2 = c1 .before .before in
+    let s = c2 in
     c .only-for5 .ensures
     ∙ ap (onlyFor (s .args .kind) 5) (c .before .sample-below3 .ensures)
     ∙ sym (ap (sampleOf (s .args .kind) (s .args .options)) (c .before .before .before .reading5 .given .1))

@@ -15,15 +15,8 @@ abbrev μ-loop : tie.MeasureT-loop
 
 mul-m : tie.Need-mul-m Inv-loop μ-loop
 mul-m c =
-    let s = c .before .before in
-    let i = c .before .loop .i in
+    let s = c .before .before in let i = c .before .loop .i in
     omega (arith, zeros-below (s .args .n) i (s .pre .0) (omega arith))
-
-add-i : tie.Need-add-i Inv-loop μ-loop
-add-i c = omega arith
-
-loop-less : tie.Need-loop-less Inv-loop μ-loop
-loop-less c = omega arith
 
 loop-again : tie.Need-loop-again Inv-loop μ-loop
 loop-again c =
@@ -37,4 +30,4 @@ returns c =
 
 pub scaled-spec : {M : Type 1} → statement M
 scaled-spec =
-    tie.close (tie.spec Inv-loop μ-loop (λ c. search needs) mul-m add-i loop-less loop-again returns)
+    tie.close (tie.spec Inv-loop μ-loop (λ c. search needs) mul-m (λ c. omega arith) (λ c. omega arith) loop-again returns)
