@@ -22,7 +22,7 @@ some : (c : tie.Then1 Inv-loop μ-loop) → 0 < c .before .before .loop .turns
 some c = let turn = c .before .before .loop in turn-left (ltb (turn .more .window .from) (turn .more .window .to)) (turn .turns) (c .if1 .taken)
 
 loop-again : tie.Need-loop-again Inv-loop μ-loop
-loop-again c = let c1 = c .before .before .before .before in let c2 = c1 .before .before .before .before in let c3 = c2 .before .before .before in let c4 = c3 .before .before .before in let c5 = c4 .before .before .before in search (needs, c5 .loop .inv)
+loop-again c = let turn = (let c1 = c .before .before .before .before in let c2 = c1 .before .before .before .before in let c3 = c2 .before .before .before in let c4 = c3 .before .before .before in c4 .before .before .before .loop .inv) in search (needs, turn)
 
 pub replay-spec : {M : Type 1} → statement M
 replay-spec =

@@ -18,7 +18,7 @@ returns-2 : tie.Need-returns-2
 returns-2 c = let c1 = c .before .before .before .before in let c2 = c1 .before .before in let c3 = c2 .before .before in sampling-alone (c3 .args .line .now) (c3 .args .head) (c3 .pre .0) (c3 .args .sheet) (c3 .pre .1) (c2 .sensors-listed .ensures) (c1 .if1 .left) (c .before .if2 .taken) (c .alone-row .ensures)
 
 array-share-prefix-places : tie.Need-array-share-prefix-places
-array-share-prefix-places c = let c1 = c .before .before .before in let c2 = c1 .before .before in let c3 = c2 .before .before in let e : length (c2 .sensors-listed .result .places) ≡ 32 = search needs in omega (arith, scanned-few (c3 .args .sheet) (listed (c3 .args .sheet) (messageOf (c3 .args .line .now))), ap (λ (l : Listed). l .count) (c2 .sensors-listed .ensures))
+array-share-prefix-places c = let e : length (c .before .before .before .before .before .sensors-listed .result .places) ≡ 32 = search needs in let c1 = c .before .before .before in let c2 = c1 .before .before in let c3 = c2 .before .before in omega (arith, scanned-few (c3 .args .sheet) (listed (c3 .args .sheet) (messageOf (c3 .args .line .now))), ap (λ (l : Listed). l .count) (c2 .sensors-listed .ensures))
 
 slice-aggregate-setting-asked : tie.Need-slice-aggregate-setting-asked
 slice-aggregate-setting-asked c = let c1 = c .before .before .before .before in let c2 = c1 .before .before in let c3 = c2 .before .before in places-many (c3 .args .line .now) (c3 .args .head) (c3 .pre .0) (c3 .args .sheet) (c3 .pre .1) (c2 .sensors-listed .ensures) (c1 .if1 .left)
