@@ -6,7 +6,7 @@ ghost use lib.ListN.{length, drop, take};
 ghost use Rattle.output.specs.Output.{laid};
 ghost use Rattle.output.specs.Read.{readInteger};
 ghost use Rattle.input.specs.Words.{wordAt, spaces, hasWords, isNatural, integerOf};
-ghost use Rattle.input.specs.Window.{pending, kept, first};
+ghost use Rattle.input.specs.Window.{kept, first};
 
 // The bytes of a buffer that were read and are not used yet: those from `from` up to `to`.
 pub struct Window {

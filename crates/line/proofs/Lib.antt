@@ -1,6 +1,5 @@
 pub mod UnescapeLaws
 pub mod IdLaws
-pub mod SameLaws
 pub mod WordLaws
 pub mod HeadLaws
 pub mod CopyLaws

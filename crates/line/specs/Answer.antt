@@ -1,9 +1,8 @@
 -- What the code answers, in numbers, and document 01's number for it.
 use Prim.Native.Nat.{ℕ}
-use mathlib.Core.Bool.{Bool, cond}
+use mathlib.Core.Bool.{cond}
 use mathlib.Core.List.{List, [], _∷_}
 use lib.ListN.{length}
-use lib.Dec.{eqb}
 use Rattle.output.specs.Text.{run}
 use Rattle.message.specs.Message.{Message}
 use Rattle.line.specs.declared.Identifier.{Identifier}
@@ -52,8 +51,3 @@ countOf ws = cond (allValid ws) (Are (length ws)) Refused
 -- how many spaces and tabs a list starts with
 abbrev pub lead : List ℕ → ℕ
 lead s = length (run blank s)
-
--- x is the first byte of a text
-abbrev pub begins : ℕ → List ℕ → Bool
-begins x [] = Bool.false
-begins x (y ∷ ys) = eqb x y

@@ -6,7 +6,6 @@ ghost use mathlib.Core.List.{[]};
 ghost use Prim.Native.Nat.{_+_, _-_, _≤_, _<_};
 ghost use lib.ListN.{length, getD, take, drop};
 ghost use Rattle.output.specs.Output.{output, Wrote};
-ghost use Rattle.output.specs.Text as texts;
 ghost use Rattle.line.specs.Line as spec;
 ghost use Rattle.line.specs.Argument as arguments;
 ghost use Rattle.line.specs.Answer as answers;
@@ -376,58 +375,6 @@ pub fn argument(line: &[u8], k: usize, into: &mut [u8]) -> Copied
     }
     put_unescaped(into, 0, &line[a..e]);
     Copied::Whole(n)
-}
-
-// Whether `b` stands at `j` in `text`.
-fn begins(text: &[u8], j: usize, b: u8) -> bool
-    ensures { λ r. ⌜ r ≡ answers.begins b (drop j (now (text .entry))) ⌝ }
-{
-    if text.len() <= j {
-        return false;
-    }
-    b == text[j]
-}
-
-// Whether a word stands for `text`.
-fn word_is(w: &[u8], text: &[u8]) -> bool
-    ensures { λ r. ⌜ r ≡ texts.same (spec.unescape (now (w .entry))) (now (text .entry)) ⌝ }
-{
-    let mut i = 0;
-    let mut j = 0;
-    while i < w.len() {
-        let b = w[i];
-        if b != b'\\' {
-            if !begins(text, j, b) {
-                return false;
-            }
-            i += 1;
-            j += 1;
-        } else {
-            if w.len() <= i + 1 {
-                return j == text.len();
-            }
-            if let Meaning::Byte(x) = escape(w[i + 1]) {
-                if !begins(text, j, x) {
-                    return false;
-                }
-                i += 2;
-                j += 1;
-            } else {
-                i += 2;
-            }
-        }
-    }
-    j == text.len()
-}
-
-// Whether argument `k` of a line is `text`.
-pub fn argument_is(line: &[u8], k: usize, text: &[u8]) -> bool
-    ensures { λ r. ⌜ r ≡ texts.same (arguments.argument (now (line .entry)) k) (now (text .entry)) ⌝ }
-{
-    let w = argument_word(line, k);
-    let a = w.from;
-    let e = w.to;
-    word_is(&line[a..e], text)
 }
 
 // The name of a line's message, of `n` bytes.

@@ -1,6 +1,5 @@
 //! A lent output, and writers of bytes and numbers. A writer is lent the output and the place where it begins, and returns the
 //! place after what it wrote. Where the output ends, so does the text: nothing past the end is written.
-ghost use mathlib.Core.Path.{_≡_};
 ghost use mathlib.Core.List.{[], _∷_};
 ghost use Prim.Native.Nat.{_+_, _/_, _%_, _<_, _≤_};
 ghost use Rattle.output.specs.Output.{output, Wrote};

@@ -62,7 +62,11 @@ fn numbers_of(line: &[u8]) -> Numbers {
 
 // Whether a line sets a field.
 fn sets(line: &[u8], field: &[u8]) -> bool {
-    line::argument_is(line, 0, field)
+    let mut text: [u8; 32] = [0; 32];
+    let Copied::Whole(n) = line::argument(line, 0, &mut text) else {
+        return false;
+    };
+    texts::same(texts::prefix(&text, n), field)
 }
 
 fn byte(n: u64) -> u8 {

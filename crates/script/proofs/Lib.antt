@@ -2,3 +2,4 @@ pub mod BytesLaws
 pub mod ReadingLaws
 pub mod CommandLaws
 pub mod ReplayLaws
+pub mod KindLaws

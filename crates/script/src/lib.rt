@@ -147,42 +147,24 @@ fn without_value(r: Reading, t: &[u8]) -> Given
     Given::Unread
 }
 
-// A reading that is not valid.
-fn without_number(kind: &[u8], t: &[u8]) -> Given
-    ensures { λ r. ⌜ r ≡ scripts.withoutNumber (now (kind .entry)) (now (t .entry)) ⌝ }
-{
-    if texts::same(kind, b"failure") {
-        return without_value(Reading::Failure, t);
-    }
-    if texts::same(kind, b"unreachable") {
-        return without_value(Reading::Unreachable, t);
-    }
-    if texts::same(kind, b"inactive") {
-        return without_value(Reading::Inactive, t);
-    }
-    Given::Unread
-}
+// The words of readings.
+const READINGS: [u8; 67] = *b"integer|float|boolean|option|timestamp|failure|unreachable|inactive";
 
 // The reading of a kind and a value.
 fn reading_of(kind: &[u8], t: &[u8]) -> Given
     ensures { λ r. ⌜ r ≡ scripts.given (now (kind .entry)) (now (t .entry)) ⌝ }
 {
-    if texts::same(kind, b"integer") {
-        return integer_of(t);
+    match texts::place_of(&READINGS, kind) {
+        0 => integer_of(t),
+        1 => float_of(t),
+        2 => boolean_of(t),
+        3 => option_of(t),
+        4 => timestamp_of(t),
+        5 => without_value(Reading::Failure, t),
+        6 => without_value(Reading::Unreachable, t),
+        7 => without_value(Reading::Inactive, t),
+        _ => Given::Unread,
     }
-    if texts::same(kind, b"float") {
-        return float_of(t);
-    }
-    if texts::same(kind, b"boolean") {
-        return boolean_of(t);
-    }
-    if texts::same(kind, b"option") {
-        return option_of(t);
-    }
-    if texts::same(kind, b"timestamp") {
-        return timestamp_of(t);
-    }
-    without_number(kind, t)
 }
 
 // Calls.

@@ -9,7 +9,6 @@ ghost use mathlib.Core.Path.{_≡_};
 ghost use mathlib.Core.Bool.{cond};
 ghost use mathlib.Core.List.{[]};
 ghost use Prim.Native.Nat.{_+_, _*_, _≤_, min};
-ghost use lib.ListN.{length};
 ghost use Rattle.output.specs.Output.{output, Wrote};
 ghost use Rattle.output.specs.Read.{readDecimal, readInteger};
 ghost use Rattle.machine.specs.Declined as calls;

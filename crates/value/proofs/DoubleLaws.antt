@@ -6,11 +6,9 @@ use native.Mathlib.Nat.{add-mul, div-add-mod', mul-mod-left, mul-div-cancel, le-
 use native.Mathlib.Omega.{arith}
 use lib.Dec.{leb, eqb}
 use lib.IntN.{ℤ}
-use lib.Ieee.{fin, up, down, binary64, ofBits}
+use lib.Ieee.{fin, up, down}
 use lib.Ieee.Fits.{down-pos}
 use borrow.Author.Tests.{leb-true, eqb-true, le-leb}
-use mathlib.Core.List.{[], _∷_, map}
-use Rattle.value.specs.declared.Fit.{Fit}
 use Rattle.value.specs.declared.Fit.the-variants.{At, Out}
 use Rattle.value.specs.Double.{biased, within, wholeOf, ofDouble, exact1024, Stands}
 
@@ -72,19 +70,3 @@ stands-whole true a b n B h l =
 pub stands-exact : (s : Bool) (m : ℕ) (e : ℤ) (n : ℕ) → Stands s (m * up e * 1024) (down e) n → n ≤ 2 ^ 31 → exact1024 (fin s m e) ≡ At n
 unfolding ofDouble
 stands-exact s m e n h l = stands-whole s (m * up e * 1024) (down e) n (down-pos e) h l
-
--- ---- examples, by their bit patterns
-
-abbrev ofPattern : ℕ → Fit
-ofPattern b = exact1024 (ofBits binary64 b)
-
--- -1,048,576, -0.5, -0.0, 0.0, 0.0009765625, 0.5, 1,048,576
-pub exact : map ofPattern (0xc130_0000_0000_0000 ∷ 0xbfe0_0000_0000_0000 ∷ 0x8000_0000_0000_0000 ∷ 0 ∷ 0x3f50_0000_0000_0000 ∷ 0x3fe0_0000_0000_0000 ∷ 0x4130_0000_0000_0000 ∷ [])
-    ≡ At 0 ∷ At (2 ^ 30 - 512) ∷ At (2 ^ 30) ∷ At (2 ^ 30) ∷ At (2 ^ 30 + 1) ∷ At (2 ^ 30 + 512) ∷ At (2 ^ 31) ∷ []
-unfolding ofBits ofDouble
-exact = refl
-
--- 1,048,576 + 1/1024, 1/2048, 2^-1074, an infinity, a NaN
-pub unfit : map ofPattern (0x4130_0000_0040_0000 ∷ 0x3f40_0000_0000_0000 ∷ 1 ∷ 0x7ff0_0000_0000_0000 ∷ 0x7ff8_0000_0000_0000 ∷ []) ≡ Out ∷ Out ∷ Out ∷ Out ∷ Out ∷ []
-unfolding ofBits ofDouble
-unfit = refl

@@ -5,7 +5,7 @@ ghost use mathlib.Core.Bool.{cond};
 ghost use Prim.Native.Nat.{_*_, _^_, _<_, _≤_};
 ghost use lib.Dec.{eqb};
 ghost use lib.Ieee.{binary64, ofBits};
-ghost use lib.ListN.{length, take};
+ghost use lib.ListN.{take};
 ghost use Rattle.output.specs.Output.{output, Wrote};
 ghost use Rattle.message.specs.Message.{arg};
 ghost use Rattle.value.specs.Double.{exact1024, wholeOf, within, withinSigned};
@@ -322,28 +322,7 @@ pub fn put_arg_status(out: &mut [u8], at: usize, status: u8) -> usize
     }
 }
 
-// The first n bytes of s, written at `at`.
-fn put_prefix(out: &mut [u8], at: usize, s: &[u8], n: usize) -> usize
-    ensures { λ r. ⌜ Wrote (output (now (out .entry)) at) (take n (now (s .entry))) (output (now (out .exit)) r) ⌝ }
-{
-    output::put_bytes(out, at, texts::prefix(s, n))
-}
-
-// The text of the stored number `n` of a type, without escapes. A discrete value is the option that it names, `len` bytes of `option`.
-pub fn put_value(out: &mut [u8], at: usize, kind: u8, option: &[u8], len: usize, n: u64) -> usize
-    ensures { λ r. ⌜ Wrote (output (now (out .entry)) at) (valueText kind (take len (now (option .entry))) n) (output (now (out .exit)) r) ⌝ }
-{
-    match kind {
-        1 => output::put_integer(out, at, n),
-        2 => output::put_float(out, at, n),
-        3 => output::put_decimal(out, at, n),
-        4 => put_prefix(out, at, option, len),
-        5 => output::put_time(out, at, n),
-        _ => output::put_time(out, at, n),
-    }
-}
-
-// The same as an argument.
+// The text of the stored number `n` of a type as an argument. A discrete value is the option that it names, `len` bytes of `option`.
 pub fn put_arg_value(
     out: &mut [u8],
     at: usize,

@@ -43,7 +43,7 @@ fn print_double(bits: u64) -> bool {
     let Sampled::As(s) = value::sample_of(2, 0, reading) else {
         return stream::print(b"10");
     };
-    let n = value::put_value(&mut out, 0, 2, b"", 0, s.number);
+    let n = output::put_float(&mut out, 0, s.number);
     stream::print(texts::prefix(&out, n))
 }
 
