@@ -233,6 +233,9 @@ fn is_integer(kind: u8) -> bool
     match kind {
         1 => true,
         2 => false,
+        3 => false,
+        4 => false,
+        5 => false,
         _ => false,
     }
 }

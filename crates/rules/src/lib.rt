@@ -177,6 +177,9 @@ fn limit_ok(kind: u8, n: u64) -> bool
     match kind {
         1 => n < value::INTEGERS,
         2 => n <= value::MOST_FLOAT,
+        3 => n <= value::MOST_FLOAT,
+        4 => n <= value::MOST_FLOAT,
+        5 => n <= value::MOST_FLOAT,
         _ => n <= value::MOST_FLOAT,
     }
 }

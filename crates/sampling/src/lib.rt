@@ -45,10 +45,10 @@ fn distance(a: u64, b: u64) -> u64
     if a <= b { b - a } else { a - b }
 }
 
-// 1024 and 1,000,000 in lowest terms: the one.
-const GRID: u64 = 16;
-// The other.
-const PARTS: u64 = 15625;
+// 1,024 and 1,000,000 in lowest terms.
+const LOWEST_1024: u64 = 16;
+
+const LOWEST_MILLION: u64 = 15625;
 
 // Whether so many units are more than a difference in millionths. The quotients stand for products that could wrap; a float's unit is
 // 1/1024, and 1024 millionths are to 1,000,000 as 16 to 15,625.
@@ -59,10 +59,13 @@ fn is_beyond(sensor: Sensor, difference: u64, units: u64) -> bool
     match kind {
         1 => difference / output::MILLIONTHS < units,
         2 => {
-            let whole = GRID * (difference / PARTS);
-            let rest = GRID * (difference % PARTS) / PARTS;
+            let whole = LOWEST_1024 * (difference / LOWEST_MILLION);
+            let rest = LOWEST_1024 * (difference % LOWEST_MILLION) / LOWEST_MILLION;
             whole + rest < units
         }
+        3 => difference / output::MILLIONTHS < units,
+        4 => difference / output::MILLIONTHS < units,
+        5 => difference / output::MILLIONTHS < units,
         _ => difference / output::MILLIONTHS < units,
     }
 }

@@ -228,6 +228,9 @@ fn difference_ok(kind: u8, d: u64) -> bool
     match kind {
         1 => (d <= 4294967295000000) & (d % output::MILLIONTHS == 0),
         2 => d <= value::MOST_FLOAT_DIFFERENCE,
+        3 => false,
+        4 => false,
+        5 => false,
         _ => false,
     }
 }

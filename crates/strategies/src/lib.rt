@@ -71,6 +71,9 @@ fn put_arg_difference(out: &mut [u8], at: usize, sensor: Sensor, difference: u64
     match kind {
         1 => message::put_arg_whole_difference(out, at, difference),
         2 => message::put_arg_difference(out, at, difference),
+        3 => message::put_arg_difference(out, at, difference),
+        4 => message::put_arg_difference(out, at, difference),
+        5 => message::put_arg_difference(out, at, difference),
         _ => message::put_arg_difference(out, at, difference),
     }
 }
@@ -167,6 +170,9 @@ fn difference_for(kind: u8, text: &[u8]) -> Parameter
     match kind {
         1 => value::read_integer_difference(text),
         2 => value::read_float_difference(text),
+        3 => value::read_float_difference(text),
+        4 => value::read_float_difference(text),
+        5 => value::read_float_difference(text),
         _ => value::read_float_difference(text),
     }
 }
