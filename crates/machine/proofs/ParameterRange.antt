@@ -11,6 +11,7 @@ use Rattle.output.specs.Read.{valueFrom, inDifference, inWholeDifference}
 use Rattle.value.specs.declared.Parameter.{Parameter}
 use Rattle.value.specs.declared.Parameter.the-variants.{Is, Bad}
 use Rattle.value.specs.Parameter.{whole, fraction, plainDecimal, units, decimalOk, integerDifferenceOf, floatDifferenceOf, periodOf}
+use Rattle.value.proofs.ExactLaws.{reads, plain-only}
 use Rattle.machine.specs.declared.Sensor.{Sensor}
 use Rattle.machine.specs.declared.Sheet.{Sheet}
 use Rattle.machine.specs.Places.{any, has}
@@ -27,6 +28,7 @@ passed-test false n h = absurd (true≢false h)
 
 -- a decimal that is not refused
 record Decimal (k least most : ℕ) (t : List ℕ) : Type 0 where
+  plain : plainDecimal t ≡ true
   digits : length (fraction t) ≤ k
   lower : least ≤ units k t
   upper : units k t ≤ most
@@ -37,7 +39,7 @@ decimal-out k least most t h =
     let a = and-true (plainDecimal t) (leb (length (fraction t)) k && (leb least (units k t) && leb (units k t) most)) h in
     let b = and-true (leb (length (fraction t)) k) (leb least (units k t) && leb (units k t) most) (a .1) in
     let c = and-true (leb least (units k t)) (leb (units k t) most) (b .1) in
-    record { digits = leb-true (length (fraction t)) k (b .0); lower = leb-true least (units k t) (c .0); upper = leb-true (units k t) most (c .1) }
+    record { plain = a .0; digits = leb-true (length (fraction t)) k (b .0); lower = leb-true least (units k t) (c .0); upper = leb-true (units k t) most (c .1) }
 
 -- Periods.
 
@@ -69,15 +71,10 @@ unfolding integerDifferenceOf
 whole-out t h = let a = passed-test (decimalOk 0 0 4294967295 t) (units 0 t * 1000000) h in
     record { whole-number = a .1; whole-decimal = decimal-out 0 0 4294967295 t (a .0) }
 
--- a float's difference
-record FloatNumber (t : List ℕ) : Type 0 where
-  float-number : numberOf (floatDifferenceOf t) ≡ units 6 t
-  float-decimal : Decimal 6 0 2097152000000 t
-
-float-out : (t : List ℕ) → isBad (floatDifferenceOf t) ≡ false → FloatNumber t
-unfolding floatDifferenceOf
-float-out t h = let a = passed-test (decimalOk 6 0 2097152000000 t) (units 6 t) h in
-    record { float-number = a .1; float-decimal = decimal-out 6 0 2097152000000 t (a .0) }
+-- a parameter that is not bad is a number
+number-is : (p : Parameter) → isBad p ≡ false → p ≡ Is (numberOf p)
+number-is (Is n) h = refl
+number-is Bad h = absurd (true≢false h)
 
 -- digits without a fraction, in millionths
 units-whole : (w : ℕ) (f : List ℕ) → length f ≤ 0
@@ -87,7 +84,10 @@ units-whole w (b ∷ f) h = absurd (omega arith)
 
 both-same : (t : List ℕ) → isBad (integerDifferenceOf t) ≡ false → isBad (floatDifferenceOf t) ≡ false → numberOf (integerDifferenceOf t) ≡ numberOf (floatDifferenceOf t)
 both-same t h k = let a = whole-out t h in
-    a .whole-number ∙ (units-whole (valueFrom 0 (whole t)) (fraction t) (a .whole-decimal .digits) ∙ sym (float-out t k .float-number))
+    let d = a .whole-decimal in
+    a .whole-number
+    ∙ units-whole (valueFrom 0 (whole t)) (fraction t) (d .digits)
+    ∙ sym (plain-only t (numberOf (floatDifferenceOf t)) (d .plain) (omega (arith, d .digits)) (number-is (floatDifferenceOf t) k))
 
 -- what suits two sensors is the same number for both
 difference-same : (n k : Sensor) (t : List ℕ) → isBad (differenceFor n t) ≡ false → isBad (differenceFor k t) ≡ false
@@ -109,7 +109,7 @@ whole-fits t h = let a = whole-out t h in let u = a .whole-decimal .upper in
     (le-leb (units 0 t * 1000000) 4294967295000000 (omega arith)) (eq-eqb (units 0 t * 1000000 % 1000000) 0 (omega arith)))
 
 float-fits : (t : List ℕ) → isBad (floatDifferenceOf t) ≡ false → inDifference (numberOf (floatDifferenceOf t)) ≡ true
-float-fits t h = let a = float-out t h in rw (a .float-number) (le-leb (units 6 t) 2097152000000 (a .float-decimal .upper))
+float-fits t h = le-leb (numberOf (floatDifferenceOf t)) 2097152000000 (reads .only t (numberOf (floatDifferenceOf t)) (number-is (floatDifferenceOf t) h) .most)
 
 difference-fits : (n : Sensor) (t : List ℕ) → 1 ≤ n .kind → n .kind < 3 → isBad (differenceFor n t) ≡ false → differenceOk (n .kind) (numberOf (differenceFor n t)) ≡ true
 unfolding differenceFor differenceOk

@@ -26,7 +26,6 @@ use Rattle.texts.proofs.BeforeLaws.{before-is}
 use Rattle.numbers.specs.declared.Number.{Number}
 use Rattle.numbers.specs.declared.Number.the-variants.{Is, Bad}
 use Rattle.numbers.specs.Number.{numberOf, heldParts, heldSigned}
-use Rattle.numbers.proofs.DigitLaws.{value-both}
 
 -- what was written at the start of a buffer with room for it
 pub written : {xs ys : List ℕ} {r : ℕ} {bs : List ℕ} → Wrote (output xs 0) bs (output ys r) → length bs ≤ length xs → take r ys ≡ bs
@@ -114,12 +113,12 @@ capped-fits base x {v} b e =
     let h : v * base ≤ 2 ^ 64 - 1 = le-div-iff-mul-le b .0 l in
     omega arith
 
-pub parts-held : (base : ℕ) (t : List ℕ) {whole fraction : List ℕ} {n w v r : ℕ} → n ≡ length (upTo 46 t) → whole ≡ take n t → fraction ≡ past 46 t
-    → w ≡ min (valueFrom 0 whole) ((2 ^ 64 - 1) / base) → v ≡ min (valueFrom w fraction) ((2 ^ 64 - 1) / base) → r ≡ v * base / 10 ^ length fraction → r ≡ heldParts base t
+pub parts-held : (base : ℕ) (t : List ℕ) {whole fraction : List ℕ} {n v r : ℕ} → n ≡ length (upTo 46 t) → whole ≡ take n t → fraction ≡ past 46 t
+    → v ≡ min (valueFrom 0 (whole ++ fraction)) ((2 ^ 64 - 1) / base) → r ≡ v * base / 10 ^ length fraction → r ≡ heldParts base t
 unfolding heldParts
-parts-held base t {whole} {fraction} {n} {w} {v} {r} before part behind first all h =
+parts-held base t {whole} {fraction} {n} {v} {r} before part behind all h =
     let e : whole ≡ upTo 46 t = part ∙ before-is 46 t n before in
-    h ∙ rw (all, first, e, behind, value-both)
+    h ∙ rw (all, e, behind)
 
 -- what 64 bits hold is what is counted, where that fits
 held : (base : ℕ) (t : List ℕ) → 0 < base → valueFrom 0 (upTo 46 t ++ past 46 t) * base < 2 ^ 64 → heldParts base t ≡ parts base t

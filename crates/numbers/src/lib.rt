@@ -1,6 +1,7 @@
 //! The texts of numbers, read exactly as they are written: a text is that of a number where the number, written again, is the text.
 ghost use mathlib.Core.Path.{_≡_};
 ghost use mathlib.Core.Bool.{cond, _&&_};
+ghost use mathlib.Core.List.{_++_};
 ghost use Prim.Native.Nat.{_+_, _-_, _*_, _/_, _^_, _<_, _≤_, min};
 ghost use Rattle.output.specs.Text as text;
 ghost use Rattle.output.specs.Read as reads;
@@ -32,7 +33,7 @@ const FLOAT_BIAS: u64 = output::FLOAT_ZERO;
 
 pub const LAST_FLOAT: u64 = 2 * FLOAT_BIAS;
 
-const LAST_DIFFERENCE: u64 = 2097152000000;
+pub const LAST_DIFFERENCE: u64 = 2097152000000;
 
 const LAST_WHOLE_DIFFERENCE: u64 = 4294967295000000;
 
@@ -94,6 +95,26 @@ pub fn digits_value(t: &[u8], most: u64) -> u64
     digits_after(0, t, most)
 }
 
+// The number that the digits of two texts make, those of b behind those of a, `most` at most.
+pub fn both_value(a: &[u8], b: &[u8], most: u64) -> u64
+    ensures { λ r. ⌜ r ≡ min (reads.valueFrom 0 (now (a .entry) ++ now (b .entry))) most ⌝ }
+{
+    digits_after(digits_value(a, most), b, most)
+}
+
+// n with zeros behind its digits, `most` at most.
+pub fn with_zeros(n: u64, count: usize, most: u64) -> u64
+    ensures { λ r. ⌜ r ≡ min (n * 10 ^ count) most ⌝ }
+{
+    let mut m = least(n, most);
+    let mut i = 0;
+    while i < count {
+        m = with_digit(m, b'0', most);
+        i += 1;
+    }
+    m
+}
+
 // n without its last digits.
 fn without_digits(n: u64, places: usize) -> u64
     ensures { λ r. ⌜ r ≡ n / 10 ^ places ⌝ }
@@ -115,7 +136,7 @@ fn parts_of(t: &[u8], base: u64) -> u64
     let most = u64::MAX / base;
     let whole = texts::prefix(t, texts::len_before(t, b'.'));
     let fraction = texts::behind(t, b'.');
-    let all = digits_after(digits_after(0, whole, most), fraction, most);
+    let all = both_value(whole, fraction, most);
     without_digits(all * base, fraction.len())
 }
 

@@ -1,7 +1,8 @@
 -- Classes of bytes.
 use Prim.Native.Nat.{ℕ}
 use Prim.Native.Char.{code}
-use mathlib.Core.Bool.{Bool, not, _&&_, _||_}
+use mathlib.Core.Bool.{Bool, false, not, _&&_, _||_}
+use mathlib.Core.List.{List, [], _∷_}
 use lib.Dec.{eqb, leb}
 use Rattle.output.specs.Text.{isDigit}
 use Rattle.output.specs.Read.{other}
@@ -35,3 +36,8 @@ inClass Word = wordByte
 inClass Title = titleByte
 inClass Digit = isDigit
 inClass (Other x) = other x
+
+-- whether a text begins with a byte
+abbrev pub begins : ℕ → List ℕ → Bool
+begins b [] = false
+begins b (c ∷ s) = eqb c b

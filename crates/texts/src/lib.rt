@@ -1,6 +1,6 @@
 //! Texts: whether two are the same, the start of one, the class of its bytes, and tables of words. A table is one text, its words parted by bars.
 ghost use mathlib.Core.Path.{_≡_};
-ghost use lib.ListN.{length, take};
+ghost use lib.ListN.{length, take, drop};
 ghost use Rattle.output.specs.Text as text;
 ghost use Rattle.output.specs.Read.{upTo, past};
 ghost use Rattle.texts.specs.Class as classes;
@@ -43,6 +43,26 @@ pub fn prefix(s: &[u8], n: usize) -> &[u8]
         return &s[..n];
     }
     s
+}
+
+// What stands behind the first n bytes of s; nothing where it is shorter.
+pub fn rest(s: &[u8], n: usize) -> &[u8]
+    ensures { λ r. ⌜ now r ≡ drop n (now (s .entry)) ⌝ }
+{
+    if n < s.len() {
+        return &s[n..];
+    }
+    &s[s.len()..]
+}
+
+// Whether a text begins with this byte.
+pub fn begins(s: &[u8], b: u8) -> bool
+    ensures { λ r. ⌜ r ≡ classes.begins b (now (s .entry)) ⌝ }
+{
+    if s.len() == 0 {
+        return false;
+    }
+    s[0] == b
 }
 
 // A decimal digit.
@@ -112,6 +132,20 @@ pub fn digits_len(s: &[u8]) -> usize
     ensures { λ r. ⌜ r ≡ length (text.run text.isDigit (now (s .entry))) ⌝ }
 {
     run_len(s, Class::Digit)
+}
+
+// The digits that a text starts with.
+pub fn digits(s: &[u8]) -> &[u8]
+    ensures { λ r. ⌜ now r ≡ text.run text.isDigit (now (s .entry)) ⌝ }
+{
+    prefix(s, digits_len(s))
+}
+
+// What stands behind them.
+pub fn behind_digits(s: &[u8]) -> &[u8]
+    ensures { λ r. ⌜ now r ≡ text.behindRun text.isDigit (now (s .entry)) ⌝ }
+{
+    rest(s, digits_len(s))
 }
 
 // How many bytes of a text stand before its first byte `stop`; all of them where it has none.

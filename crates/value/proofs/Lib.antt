@@ -4,6 +4,6 @@ pub mod SignedLaws
 pub mod DoubleLaws
 pub mod ValueLaws
 pub mod SampleLaws
-pub mod DigitLaws
 pub mod DecimalLaws
+pub mod ExactLaws
 pub mod ParameterLaws

@@ -7,7 +7,7 @@ use mathlib.Core.Path.{_≡_, refl, ap, sym, _∙_}
 use mathlib.Core.Logic.{⊎-elim}
 use mathlib.Core.Bool.{true}
 use mathlib.Core.List.{List, [], _∷_, _++_, append-assoc, append-nil}
-use lib.ListN.{length}
+use lib.ListN.{length, drop}
 use lib.Pow.{pow-add}
 use borrow.Author.Tests.{le-leb, lt-ltb, le-ltb, ne-eqb}
 use Rattle.output.specs.Number.{digit, digitsIn, decimal, time, fractionIn, fixed, difference, wholeDifference}
@@ -18,8 +18,9 @@ use Rattle.output.proofs.RunLaws.{run-append, behind-append}
 use Rattle.output.proofs.LengthLaws.{length-fraction}
 use Rattle.output.proofs.ReadLaws.{value-decimal, fraction-exact}
 use Rattle.value.specs.declared.Parameter.the-variants.{Is}
-use Rattle.value.specs.Parameter.{whole, behindWhole, wholeOk, fractionOk, plainDecimal, behindPoint, units, decimalOk, integerDifferenceOf, floatDifferenceOf, periodOf, shortestOf}
+use Rattle.value.specs.Parameter.{whole, behindWhole, wholeOk, fractionOk, plainDecimal, units, decimalOk, integerDifferenceOf, floatDifferenceOf, periodOf, shortestOf}
 use Rattle.value.proofs.DecimalLaws.{answer, in-millionths}
+use Rattle.value.proofs.ExactLaws.{plain-read}
 
 -- ---- digits, and what stands behind them
 
@@ -78,16 +79,16 @@ module _ (w : ℕ) (b : List ℕ) (fits : w < 2 ^ 64) (behind : Behind b) where
   plain-is : plainDecimal (decimal w ++ b) ≡ true
   plain-is = rw (whole-is, behind-is, decimal-ok w fits, behind .ok)
 
-  units-is : (k : ℕ) → units k (decimal w ++ b) ≡ w * 10 ^ k + valueFrom 0 (behindPoint b) * 10 ^ (k - length (behindPoint b))
+  units-is : (k : ℕ) → units k (decimal w ++ b) ≡ w * 10 ^ k + valueFrom 0 (drop 1 b) * 10 ^ (k - length (drop 1 b))
   units-is k = rw (whole-is, behind-is, value-decimal w fits)
 
   -- it is read as n where n is its number, in range
-  answer-is : (k least most n : ℕ) → length (behindPoint b) ≤ k → w * 10 ^ k + valueFrom 0 (behindPoint b) * 10 ^ (k - length (behindPoint b)) ≡ n
+  answer-is : (k least most n : ℕ) → length (drop 1 b) ≤ k → w * 10 ^ k + valueFrom 0 (drop 1 b) * 10 ^ (k - length (drop 1 b)) ≡ n
       → least ≤ n → n ≤ most → answer k least most (decimal w ++ b) ≡ Is n
   unfolding decimalOk
   answer-is k least most n s e l m =
       let u = units-is k ∙ e in
-      rw (plain-is, u, behind-is, le-leb (length (behindPoint b)) k s, le-leb least n l, le-leb n most m)
+      rw (plain-is, u, behind-is, le-leb (length (drop 1 b)) k s, le-leb least n l, le-leb n most m)
 
 -- ---- the fraction's digits
 
@@ -142,8 +143,8 @@ unfolding shortestOf
 shortest-back p h = time-answer 0 86400000 p (omega arith) (omega arith) h
 
 pub float-difference-back : (d : ℕ) → d ≤ 2097152000000 → floatDifferenceOf (difference d) ≡ Is d
-unfolding floatDifferenceOf difference
-float-difference-back d h = fixed-answer 1000000 5 0 2097152000000 d refl (omega arith) (omega arith) h
+unfolding difference
+float-difference-back d h = plain-read (difference d) d (fixed-answer 1000000 5 0 2097152000000 d refl (omega arith) (omega arith) h)
 
 decimal-answer : (most w : ℕ) → w < 2 ^ 64 → w ≤ most → answer 0 0 most (decimal w) ≡ Is w
 decimal-answer most w h o =

@@ -4,4 +4,5 @@ pub mod Reading
 pub mod Status
 pub mod Value
 pub mod Parameter
+pub mod Exact
 pub mod Answer

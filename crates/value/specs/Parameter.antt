@@ -4,9 +4,10 @@ use Prim.Native.Char.{code}
 use mathlib.Core.Bool.{Bool, true, false, not, cond, _&&_, _||_}
 use mathlib.Core.List.{List, [], _∷_}
 use lib.Dec.{eqb, leb}
-use lib.ListN.{length}
+use lib.ListN.{length, drop}
 use Rattle.output.specs.Text.{isDigit, all, run, behindRun}
 use Rattle.output.specs.Read.{valueFrom}
+use Rattle.scientific.specs.Decimal.{millionths, scientificOk}
 use Rattle.value.specs.declared.Parameter.{Parameter}
 use Rattle.value.specs.declared.Parameter.the-variants.{Is, Bad}
 
@@ -32,14 +33,9 @@ fractionOk (b ∷ s) = eqb b (code ".") && (leb 1 (length s) && all isDigit s)
 abbrev pub plainDecimal : List ℕ → Bool
 plainDecimal t = wholeOk (whole t) && fractionOk (behindWhole t)
 
--- the digits behind the point
-abbrev pub behindPoint : List ℕ → List ℕ
-behindPoint [] = []
-behindPoint (b ∷ s) = s
-
--- the fraction digits of a plain decimal
+-- the fraction digits of a plain decimal: what stands behind the point
 abbrev pub fraction : List ℕ → List ℕ
-fraction t = behindPoint (behindWhole t)
+fraction t = drop 1 (behindWhole t)
 
 -- the number in units of 10^-k, where it has at most k fraction digits
 abbrev pub units : ℕ → List ℕ → ℕ
@@ -54,9 +50,10 @@ decimalOk k least most t =
 unfoldable pub integerDifferenceOf : List ℕ → Parameter
 integerDifferenceOf t = cond (decimalOk 0 0 4294967295 t) (Is (units 0 t * 1000000)) Bad
 
--- "float to 2,097,152 with at most 6 fraction digits", in millionths
+-- "float to 2,097,152", in millionths, and document 02, (b): "a float is read as C99 does, in decimal form. [...] The exact decimal must still be at
+-- most 2,097,152 and a whole number of millionths. Minus is taken only for zero."
 unfoldable pub floatDifferenceOf : List ℕ → Parameter
-floatDifferenceOf t = cond (decimalOk 6 0 2097152000000 t) (Is (units 6 t)) Bad
+floatDifferenceOf t = cond (scientificOk 2097152000000 t) (Is (millionths t)) Bad
 
 -- "Periods: 0.001 to 86,400 seconds, at most 3 fraction digits", in milliseconds
 unfoldable pub periodOf : List ℕ → Parameter

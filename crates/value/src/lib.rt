@@ -13,7 +13,7 @@ ghost use Rattle.value.specs.Integer.{biasedInteger, signed32, word};
 ghost use Rattle.value.specs.Reading.{valid, below, ofFit, invalid, onlyFor, sampleOf, isMeasured, zeroOf};
 ghost use Rattle.value.specs.Status.{rangeStatus, statusOf, statusText};
 ghost use Rattle.value.specs.Value.{valueText};
-ghost use Rattle.value.specs.Parameter.{whole, wholeOk, fractionOk, behindPoint, units, decimalOk, integerDifferenceOf, floatDifferenceOf, periodOf, shortestOf};
+ghost use Rattle.value.specs.Parameter.{wholeOk, fractionOk, units, decimalOk, integerDifferenceOf, floatDifferenceOf, periodOf, shortestOf};
 
 // The stored number of the integer 0, as `output` has it, and signed.
 const INTEGER_ZERO: i64 = output::INTEGER_ZERO as i64;
@@ -30,9 +30,7 @@ pub const LAST_TIME: u64 = numbers::LAST_TIME;
 // The longest period, in milliseconds.
 pub const LONGEST_PERIOD: u64 = 86400000;
 // The largest difference of floats, in millionths.
-pub const MOST_FLOAT_DIFFERENCE: u64 = 2097152000000;
-// Digits are read up to this number, above every number that a parameter may have before or behind its point.
-const MOST_DIGITS: u64 = 10000000000;
+pub const MOST_FLOAT_DIFFERENCE: u64 = numbers::LAST_DIFFERENCE;
 // The sign bit of a double.
 const SIGN: u64 = 0x8000_0000_0000_0000;
 // The implicit bit above its fraction.
@@ -349,20 +347,6 @@ pub enum Parameter {
     Bad,
 }
 
-// n · 10^places.
-fn scaled(n: u64, places: usize) -> u64
-    requires { ⌜ (n ≤ 10000000000) × (places ≤ 6) ⌝ }
-    ensures { λ r. ⌜ r ≡ n * 10 ^ places ⌝ }
-{
-    let mut m = n;
-    let mut i = 0;
-    while i < places {
-        m *= 10;
-        i += 1;
-    }
-    m
-}
-
 // Digits before the point, without leading zeros.
 pub fn whole_ok(w: &[u8]) -> bool
     ensures { λ r. ⌜ r ≡ wholeOk (now (w .entry)) ⌝ }
@@ -373,15 +357,6 @@ pub fn whole_ok(w: &[u8]) -> bool
     (w[0] != b'0') | (w.len() == 1)
 }
 
-fn behind_point(s: &[u8]) -> &[u8]
-    ensures { λ r. ⌜ now r ≡ behindPoint (now (s .entry)) ⌝ }
-{
-    if s.len() == 0 {
-        return s;
-    }
-    &s[1..]
-}
-
 // Nothing, or a point and one or more digits.
 fn fraction_ok(s: &[u8]) -> bool
     ensures { λ r. ⌜ r ≡ fractionOk (now (s .entry)) ⌝ }
@@ -389,32 +364,28 @@ fn fraction_ok(s: &[u8]) -> bool
     if s.len() == 0 {
         return true;
     }
-    let rest = behind_point(s);
+    let rest = texts::rest(s, 1);
     (s[0] == b'.') & ((1 <= rest.len()) & (texts::digits_len(rest) == rest.len()))
 }
 
 // A plain decimal with at most `places` fraction digits, counted in units of 10^-places, from `least` to `most`.
 fn read_decimal(t: &[u8], places: usize, least: u64, most: u64) -> Parameter
-    requires { ⌜ (places ≤ 6) × (most < 10000000000 * 10 ^ places) ⌝ }
+    requires { ⌜ most < 18446744073709551615 ⌝ }
     ensures { λ r. ⌜ r ≡ cond (decimalOk places least most (now (t .entry))) (Parameter.Is (units places (now (t .entry)))) Parameter.Bad ⌝ }
 {
-    let n = texts::digits_len(t);
-    let whole = &t[..n];
-    let behind = &t[n..];
+    let whole = texts::digits(t);
+    let behind = texts::behind_digits(t);
     let plain = whole_ok(whole) & fraction_ok(behind);
     if !plain {
         return Parameter::Bad;
     }
-    let fraction = behind_point(behind);
+    let fraction = texts::rest(behind, 1);
     if places < fraction.len() {
         return Parameter::Bad;
     }
-    let high = scaled(numbers::digits_value(whole, MOST_DIGITS), places);
-    let number = high
-        + scaled(
-            numbers::digits_value(fraction, MOST_DIGITS),
-            places - fraction.len(),
-        );
+    let beyond = most + 1;
+    let digits = numbers::both_value(whole, fraction, beyond);
+    let number = numbers::with_zeros(digits, places - fraction.len(), beyond);
     if (number < least) | (most < number) {
         return Parameter::Bad;
     }
@@ -435,7 +406,10 @@ pub fn read_integer_difference(t: &[u8]) -> Parameter
 pub fn read_float_difference(t: &[u8]) -> Parameter
     ensures { λ r. ⌜ r ≡ floatDifferenceOf (now (t .entry)) ⌝ }
 {
-    read_decimal(t, 6, 0, MOST_FLOAT_DIFFERENCE)
+    let numbers::Number::Is(n) = scientific::read_millionths(t) else {
+        return Parameter::Bad;
+    };
+    Parameter::Is(n)
 }
 
 // A period, in milliseconds.

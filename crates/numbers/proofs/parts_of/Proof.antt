@@ -6,14 +6,14 @@ use Rattle.numbers.proofs.parts_of.Tie as tie
 
 mul-without-digits : tie.Need-mul-without-digits
 mul-without-digits c =
-    let p = c .before .before .before in let s = p .before .before .before in
-    record { fits = number.capped-fits (s .args .base) _ (s .pre) (c .digits-after2 .ensures) }
+    let p = c .before .before .before in let s = p .before .before in
+    record { fits = number.capped-fits (s .args .base) _ (s .pre) (c .both-value .ensures) }
 
 returns : tie.Need-returns
 returns c =
-    let d = c .before .before in let s = d .before .before .before in
-    number.parts-held (s .before .before .args .base) (s .before .before .args .t .now) (s .len-before .ensures) (d .before .before .prefix .ensures) (d .before .behind .ensures) (d .digits-after .ensures) (c .before .digits-after2 .ensures) (c .without-digits .ensures)
+    let d = c .before .before in let n = d .before .before in let s = n .before .before in
+    number.parts-held (s .args .base) (s .args .t .now) (n .len-before .ensures) (d .before .prefix .ensures) (d .behind .ensures) (c .before .both-value .ensures) (c .without-digits .ensures)
 
 pub parts-of-spec : {M : Type 1} → statement M
 parts-of-spec =
-    tie.close (tie.spec (λ c. search needs) (λ c κs. search needs) (λ c κs. search needs) (λ c κs. search needs) (λ c κs. search needs) (λ c κs. search needs) mul-without-digits (λ c κs. search needs) returns)
+    tie.close (tie.spec (λ c. search needs) (λ c κs. search needs) (λ c κs. search needs) (λ c κs. search needs) (λ c κs. search needs) mul-without-digits (λ c κs. search needs) returns)

@@ -7,7 +7,7 @@ use Rattle.value.proofs.fraction_ok.Tie as tie
 returns-2 : tie.Need-returns-2
 returns-2 c =
     let b = c .before .before in
-    fraction-some (b .before .before .before .args .s .now) (b .behind-point .result .now) (c .digits-len .result) (b .before .if1 .left) (b .behind-point .ensures) (c .digits-len .ensures)
+    fraction-some (b .before .before .before .args .s .now) (b .rest .result .now) (c .digits-len .result) (b .before .if1 .left) (b .rest .ensures) (c .digits-len .ensures)
 
 pub fraction-ok-spec : {M : Type 1} → statement M
 fraction-ok-spec =
