@@ -1,5 +1,6 @@
 #!/usr/bin/env python3
-"""What the program value_examples prints, by fractions, for document 01's plain decimals and floats.
+"""What the program value_examples prints, by fractions, for document 01's plain decimals and floats and the float differences of
+document 02, (b).
 
 usage: value_examples.py < crates/value_examples/stdin > crates/value_examples/stdout
 """
@@ -9,6 +10,7 @@ import sys
 from fractions import Fraction
 
 DECIMAL = re.compile(rb"(?:0|[1-9][0-9]*)(?:\.([0-9]+))?")
+C99 = re.compile(rb"[+-]?(?:[0-9]+\.?[0-9]*|\.[0-9]+)(?:[eE][+-]?[0-9]{1,3})?")
 
 
 def decimal(text, places, least, most):
@@ -17,6 +19,14 @@ def decimal(text, places, least, most):
         return None
     x = Fraction(text.decode())
     return x if least <= x <= most else None
+
+
+def float_difference(text):
+    if not C99.fullmatch(text):
+        return None
+    x = Fraction(text.decode())
+    fits = x == 0 or not text.startswith(b"-")
+    return x if fits and x <= 2097152 and (x * 10**6).denominator == 1 else None
 
 
 def exact(x, least_digits):
@@ -47,7 +57,7 @@ def main():
         ms = Fraction(1, 1000)
         words = [
             shown(decimal(line, 0, 0, 4294967295), 0, 19),
-            shown(decimal(line, 6, 0, 2097152), 1, 19),
+            shown(float_difference(line), 1, 19),
             shown(decimal(line, 3, ms, 86400), 3, 19),
             shown(decimal(line, 3, 0, 86400), 3, 19),
         ]

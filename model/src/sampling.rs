@@ -1,7 +1,7 @@
 //! The request `sensor-sampling`.
 
 use crate::device::Device;
-use crate::number::Decimal;
+use crate::number::{Decimal, ExactDecimal};
 use crate::requests::{
     Asked, Refusal, ARGUMENT_COUNT, BAD_PARAMETER, NAMED_TWICE, NOT_FOR_TYPE, SHORTEST_EXCEEDS,
     UNKNOWN_SENSOR, UNKNOWN_STRATEGY,
@@ -12,8 +12,8 @@ use crate::strategy::{Difference, Rate, Strategy, NAMES};
 /// "0.001 to 86,400 seconds", in milliseconds.
 const LONGEST_PERIOD: u64 = 86_400_000;
 
-/// "to 4,294,967,295", in millionths.
-const MOST_INTEGER_DIFFERENCE: u64 = 4_294_967_295_000_000;
+/// "to 4,294,967,295".
+const MOST_INTEGER_DIFFERENCE: u64 = 4_294_967_295;
 
 /// "to 2,097,152", in millionths.
 const MOST_FLOAT_DIFFERENCE: u64 = 2_097_152_000_000;
@@ -105,21 +105,35 @@ fn read_strategy(name: &[u8], parameters: &[Vec<u8>], kinds: &[Kind]) -> Result<
     }
 }
 
-/// "Difference: integer (no point) to 4,294,967,295; float to 2,097,152 with at
-/// most 6 fraction digits [...]; in a list of both types it must suit both".
+/// "in a list of both types it must suit both". A text that does is the same
+/// number for both.
 fn read_difference(text: &[u8], kinds: &[Kind]) -> Result<Difference, Refusal> {
-    let decimal = Decimal::read(text).ok_or(BAD_PARAMETER)?;
-    let millionths = decimal.scaled(6).ok_or(BAD_PARAMETER)?;
+    let mut millionths = 0;
     for kind in kinds {
-        let suits = match kind {
-            Kind::Integer => !decimal.has_point() && millionths <= MOST_INTEGER_DIFFERENCE,
-            _ => millionths <= MOST_FLOAT_DIFFERENCE,
+        let read = match kind {
+            Kind::Integer => integer_difference(text),
+            _ => float_difference(text),
         };
-        if !suits {
-            return Err(BAD_PARAMETER);
-        }
+        millionths = read.ok_or(BAD_PARAMETER)?;
     }
     Ok(Difference { millionths })
+}
+
+/// "Difference: integer (no point) to 4,294,967,295", in millionths.
+fn integer_difference(text: &[u8]) -> Option<u64> {
+    let whole = Decimal::read(text)?.scaled(0)?;
+    if whole > MOST_INTEGER_DIFFERENCE {
+        return None;
+    }
+    Some(whole * 1_000_000)
+}
+
+/// "Float differences therefore also take a leading `+`, a missing whole or
+/// fraction part (`.5`, `5.`, never both), leading zeros and an exponent [...].
+/// The exact decimal must still be at most 2,097,152 and a whole number of
+/// millionths." (document 02, (b)).
+fn float_difference(text: &[u8]) -> Option<u64> {
+    ExactDecimal::read(text)?.millionths(MOST_FLOAT_DIFFERENCE)
 }
 
 /// "Periods: 0.001 to 86,400 seconds, at most 3 fraction digits (shortest may

@@ -17,6 +17,7 @@ const BY_HAND: &[(&str, &str)] = &[
     ("levels", include_str!("../vectors/levels.txt")),
     ("names", include_str!("../vectors/names.txt")),
     ("sampling", include_str!("../vectors/sampling.txt")),
+    ("differences", include_str!("../vectors/differences.txt")),
     ("others", include_str!("../vectors/others.txt")),
     ("guideline", include_str!("../vectors/guideline.txt")),
     ("script", include_str!("../vectors/script.txt")),

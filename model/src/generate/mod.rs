@@ -1,6 +1,7 @@
 //! Random scripts. The model runs along, so that calls meet the state they are
 //! made in: ticks when something is due, readings near the last report.
 
+mod differences;
 mod lines;
 pub mod others;
 mod readings;

@@ -1,6 +1,7 @@
 //! Random `sensor-sampling` requests: right ones, and wrong ones in one place
 //! or in several, which tries the order of refusals.
 
+use super::differences::difference;
 use super::lines::sensor_name;
 use crate::device::Device;
 use crate::number;
@@ -23,7 +24,9 @@ const UNKNOWN_STRATEGIES: &[&str] = &[
     "auto,event",
     "period\\_",
 ];
-const BAD_TEXTS: &[&str] = &[
+
+/// No period and no integer difference; a float sensor takes some of them.
+pub const ODD_TEXTS: &[&str] = &[
     "\\@",
     "-1",
     "+1",
@@ -36,7 +39,31 @@ const BAD_TEXTS: &[&str] = &[
     "00.5",
     "1e3",
     "1E0",
+    "1e-3",
+    "1E+3",
+    "+1.5e+02",
+    "1e005",
+    "1e0005",
+    "+.5",
+    "-.0",
+    "+",
+    "-",
+    "e5",
+    ".e5",
+    "+.e0",
+    "1e",
+    "1e+",
+    "1e-",
+    "1ee3",
+    "1e3.0",
+    "1e3x",
+    "1e+-3",
+    "1e\\_3",
+    "++1",
+    "+-1",
+    "--0",
     "0x10",
+    "0x1p3",
     "1,5",
     "1..2",
     "1.2.3",
@@ -54,30 +81,7 @@ const BAD_TEXTS: &[&str] = &[
     "1-",
     "\u{662}",
 ];
-const EDGE_DIFFERENCES: &[&str] = &[
-    "4294967295",
-    "4294967296",
-    "2097152",
-    "2097153",
-    "2097152.0",
-    "2097152.000000",
-    "2097152.000001",
-    "2097151.999999",
-    "4294967295.0",
-    "0.000001",
-    "0.0000001",
-    "0.1000000",
-    "0.100000",
-    "0.000976",
-    "0.000977",
-    "0",
-    "0.0",
-    "10.0",
-    "10",
-    "9999999999",
-    "10000000000",
-    "42949672950000000",
-];
+
 const EDGE_PERIODS: &[&str] = &[
     "0",
     "0.0",
@@ -229,34 +233,10 @@ fn parameters(random: &mut Random, strategy: &str, kinds: &[Kind], faults: &Faul
     parameters
 }
 
-/// A difference that suits all types of the list, unless it is to be wrong.
-fn difference(random: &mut Random, kinds: &[Kind], faults: &Faults) -> String {
-    if random.chance(faults.parameter) {
-        return if random.chance(600) { random.pick(EDGE_DIFFERENCES) } else { random.pick(BAD_TEXTS) }
-            .to_string();
-    }
-    let has_integer = kinds.contains(&Kind::Integer);
-    let has_float = kinds.contains(&Kind::Float);
-    if has_integer && has_float && random.chance(120) {
-        return random.pick(&["2.5", "0.1", "10.0", "2097153", "4294967295"]).to_string();
-    }
-    let whole = random.pick(&[0, 0, 1, 1, 2, 3, 10, 1000, 2_097_152, 4_294_967_295]);
-    let whole: u64 = if has_float { whole.min(2_097_152) } else { whole };
-    if has_integer || whole == 2_097_152 || random.chance(150) {
-        return whole.to_string();
-    }
-    let places = 1 + random.place(6);
-    let fraction = match random.below(4) {
-        0 => format!("{:06}", random.pick(&[0, 1, 976, 977, 1953, 1954, 100_000, 500_000, 999_999])),
-        _ => format!("{:06}", random.below(1_000_000)),
-    };
-    format!("{}.{}", whole.min(10), &fraction[..places])
-}
-
 /// A period's text in some spelling, unless it is to be wrong.
 fn period(random: &mut Random, ms: u64, faults: &Faults) -> String {
     if random.chance(faults.parameter / 2) {
-        return if random.chance(600) { random.pick(EDGE_PERIODS) } else { random.pick(BAD_TEXTS) }
+        return if random.chance(600) { random.pick(EDGE_PERIODS) } else { random.pick(ODD_TEXTS) }
             .to_string();
     }
     let text = number::time_text(ms);
