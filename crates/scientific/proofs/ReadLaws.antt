@@ -34,7 +34,7 @@ small s h d =
     let v : valueFrom 0 s ≤ 1000 = omega (arith, value-below s d) in
     min-eq-left v
 
-or-second : (a b : Bool) → a ≡ false → a || b ≡ true → b ≡ true
+pub or-second : (a b : Bool) → a ≡ false → a || b ≡ true → b ≡ true
 or-second a b e h = sym (ap (λ (x : Bool). x || b) e) ∙ h
 
 exponent-small : (e : List ℕ) → exponentOk e ≡ true → min (valueFrom 0 (exponentDigits e)) 1000 ≡ valueFrom 0 (exponentDigits e)
