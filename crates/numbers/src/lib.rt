@@ -1,4 +1,5 @@
-//! The texts of numbers, read exactly as they are written: a text is that of a number where the number, written again, is the text.
+//! What digits make, up to a cap; and the texts of numbers, read exactly as they are written: a text is that of a number where the number, written
+//! again, is the text.
 ghost use mathlib.Core.Path.{_≡_};
 ghost use mathlib.Core.Bool.{cond, _&&_};
 ghost use mathlib.Core.List.{_++_};

@@ -10,6 +10,7 @@ use Rattle.output.specs.Text.{isDigit, all, run, behindRun}
 use Rattle.output.specs.Read.{valueFrom}
 use Rattle.texts.specs.Class.{begins}
 
+-- "Minus is taken only for zero"
 abbrev pub isMinus : List ℕ → Bool
 isMinus t = begins (code "-") t
 
@@ -74,9 +75,11 @@ module _ (t : List ℕ) where
   unfoldable pub isWhole : Bool
   isWhole = eqb (valueFrom 0 digits % 10 ^ (placesDown - placesUp)) 0
 
+  -- how many they are
   unfoldable pub millionths : ℕ
   millionths = valueFrom 0 digits * 10 ^ (placesUp - placesDown) / 10 ^ (placesDown - placesUp)
 
--- "The exact decimal must still be at most 2,097,152 and a whole number of millionths. Minus is taken only for zero": up to so many millionths
+-- "The exact decimal must still be at most 2,097,152 and a whole number of millionths. Minus is taken only for zero." Here the most is given, in
+-- millionths.
 unfoldable pub scientificOk : ℕ → List ℕ → Bool
 scientificOk most t = isScientific t && (isWhole t && (leb (millionths t) most && (not (isMinus t) || eqb (millionths t) 0)))

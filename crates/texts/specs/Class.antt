@@ -1,4 +1,4 @@
--- Classes of bytes.
+-- Classes of bytes, and the byte that a text begins with.
 use Prim.Native.Nat.{ℕ}
 use Prim.Native.Char.{code}
 use mathlib.Core.Bool.{Bool, false, not, _&&_, _||_}

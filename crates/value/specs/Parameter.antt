@@ -29,7 +29,8 @@ abbrev pub fractionOk : List ℕ → Bool
 fractionOk [] = true
 fractionOk (b ∷ s) = eqb b (code ".") && (leb 1 (length s) && all isDigit s)
 
--- "Parameters are plain decimals: digits, then optionally a point and one or more digits; no sign, exponent or leading zeros"
+-- "Parameters are plain decimals: digits, then optionally a point and one or more digits; no sign, exponent or leading zeros"; of these "Integer
+-- differences and periods are read as today" (document 02, (b))
 abbrev pub plainDecimal : List ℕ → Bool
 plainDecimal t = wholeOk (whole t) && fractionOk (behindWhole t)
 
