@@ -14,7 +14,7 @@ use Rattle.output.proofs.TextLaws.{digit-range}
 use Rattle.output.proofs.RunLaws.{run-take, run-drop, run-all, run-append, behind-append}
 use Rattle.texts.specs.Class.{begins}
 use Rattle.scientific.specs.Decimal.{isMinus, behindSign, behindPoint, exponentDigits, exponentOk, wholeDigits, afterPoint, fractionDigits, exponent, isScientific}
-use Rattle.scientific.specs.Form.{Spelling, Taken, Form}
+use Rattle.scientific.specs.Form.{Spelling, ReadAs, Form}
 use Rattle.scientific.proofs.ReadLaws.{or-second}
 
 -- ---- texts that begin with no digit
@@ -45,66 +45,71 @@ exponent-ends (b ∷ e) h =
 
 -- ---- what is put together is read as its parts
 
-module _ (w p f x : List ℕ) (dw : all isDigit w ≡ true) (df : all isDigit f ≡ true) (hp : ((p ≡ []) × (f ≡ [])) ⊎ (p ≡ text ".")) (ok : exponentOk x ≡ true) where
-  -- behind the whole digits no digit follows, and behind a point the fraction
-  point-is : (run isDigit (p ++ (f ++ x)) ≡ []) × ((behindRun isDigit (p ++ (f ++ x)) ≡ p ++ (f ++ x)) × (behindPoint (p ++ (f ++ x)) ≡ f ++ x))
+module _ {t : List ℕ} (s : Spelling t) where
+  -- what stands behind the whole digits
+  abbrev behind-whole : List ℕ
+  behind-whole = s .point ++ (s .fraction ++ s .exponent)
+
+  ends : Ends (s .exponent)
+  ends = exponent-ends (s .exponent) (s .an-exponent)
+
+  -- no digit follows them, and behind a point the fraction does
+  point-is : (run isDigit behind-whole ≡ []) × ((behindRun isDigit behind-whole ≡ behind-whole) × (behindPoint behind-whole ≡ s .fraction ++ s .exponent))
   unfolding isDigit
-  point-is = go hp
+  point-is = go (s .point) (s .fraction) (s .a-point)
     where
-      e : Ends x
-      e = exponent-ends x ok
+      go : (p f : List ℕ) → ((p ≡ []) × (f ≡ [])) ⊎ (p ≡ text ".")
+          → (run isDigit (p ++ (f ++ s .exponent)) ≡ []) × ((behindRun isDigit (p ++ (f ++ s .exponent)) ≡ p ++ (f ++ s .exponent)) × (behindPoint (p ++ (f ++ s .exponent)) ≡ f ++ s .exponent))
+      go p f (inl h) = rw (h .0, h .1) (ends .none, (ends .all-behind, rw (ends .no-point)))
+      go p f (inr h) = rw h (refl, (refl, refl))
 
-      go : ((p ≡ []) × (f ≡ [])) ⊎ (p ≡ text ".") → (run isDigit (p ++ (f ++ x)) ≡ []) × ((behindRun isDigit (p ++ (f ++ x)) ≡ p ++ (f ++ x)) × (behindPoint (p ++ (f ++ x)) ≡ f ++ x))
-      go (inl h) = rw (h .0, h .1) (e .none, (e .all-behind, rw (e .no-point)))
-      go (inr h) = rw h (refl, (refl, refl))
+  whole-run : run isDigit (s .whole ++ behind-whole) ≡ s .whole
+  whole-run = run-append isDigit (s .whole) behind-whole (s .before) ∙ ap (λ (l : List ℕ). s .whole ++ l) (point-is .0) ∙ append-nil (s .whole)
 
-  whole-run : run isDigit (w ++ (p ++ (f ++ x))) ≡ w
-  whole-run = run-append isDigit w (p ++ (f ++ x)) dw ∙ ap (λ (l : List ℕ). w ++ l) (point-is .0) ∙ append-nil w
+  after-is : behindPoint (behindRun isDigit (s .whole ++ behind-whole)) ≡ s .fraction ++ s .exponent
+  after-is = ap behindPoint (behind-append isDigit (s .whole) behind-whole (s .before) ∙ point-is .1 .0) ∙ point-is .1 .1
 
-  after-is : behindPoint (behindRun isDigit (w ++ (p ++ (f ++ x)))) ≡ f ++ x
-  after-is = ap behindPoint (behind-append isDigit w (p ++ (f ++ x)) dw ∙ point-is .1 .0) ∙ point-is .1 .1
+  fraction-run : run isDigit (s .fraction ++ s .exponent) ≡ s .fraction
+  fraction-run = run-append isDigit (s .fraction) (s .exponent) (s .behind) ∙ ap (λ (l : List ℕ). s .fraction ++ l) (ends .none) ∙ append-nil (s .fraction)
 
-  fraction-run : run isDigit (f ++ x) ≡ f
-  fraction-run = run-append isDigit f x df ∙ ap (λ (l : List ℕ). f ++ l) (exponent-ends x ok .none) ∙ append-nil f
+  exponent-left : behindRun isDigit (s .fraction ++ s .exponent) ≡ s .exponent
+  exponent-left = behind-append isDigit (s .fraction) (s .exponent) (s .behind) ∙ ends .all-behind
 
-  power-left : behindRun isDigit (f ++ x) ≡ x
-  power-left = behind-append isDigit f x df ∙ exponent-ends x ok .all-behind
-
-  -- it begins with a digit or a point
-  unsigned : 1 ≤ length (w ++ f) → (begins 43 (w ++ (p ++ (f ++ x))) ≡ false) × (begins 45 (w ++ (p ++ (f ++ x))) ≡ false)
-  unsigned some = go w dw some hp
+  -- without a sign it begins with a digit or a point
+  unsigned : (begins 43 (s .whole ++ behind-whole) ≡ false) × (begins 45 (s .whole ++ behind-whole) ≡ false)
+  unsigned = go (s .whole) (s .point) (s .fraction) (s .before) (s .a-digit) (s .a-point)
     where
-      go : (w : List ℕ) → all isDigit w ≡ true → 1 ≤ length (w ++ f) → ((p ≡ []) × (f ≡ [])) ⊎ (p ≡ text ".")
-          → (begins 43 (w ++ (p ++ (f ++ x))) ≡ false) × (begins 45 (w ++ (p ++ (f ++ x))) ≡ false)
-      go [] d l (inl h) = absurd (omega (arith, ap length (h .1)))
-      go [] d l (inr h) = rw h (refl, refl)
-      go (b ∷ w) d l h =
+      go : (w p f : List ℕ) → all isDigit w ≡ true → 1 ≤ length (w ++ f) → ((p ≡ []) × (f ≡ [])) ⊎ (p ≡ text ".")
+          → (begins 43 (w ++ (p ++ (f ++ s .exponent))) ≡ false) × (begins 45 (w ++ (p ++ (f ++ s .exponent))) ≡ false)
+      go [] p f d l (inl h) = absurd (omega (arith, ap length (h .1)))
+      go [] p f d l (inr h) = rw h (refl, refl)
+      go (b ∷ w) p f d l h =
           let r = digit-range b (and-eq-true-iff (isDigit b) (all isDigit w) .0 d .0) in
           (ne-eqb b 43 (λ (z : b ≡ 43). omega (arith, r .0)), ne-eqb b 45 (λ (z : b ≡ 45). omega (arith, r .0)))
 
   -- a sign is cut off
-  sign-cut : (s : List ℕ) → (s ≡ []) ⊎ ((s ≡ text "+") ⊎ (s ≡ text "-")) → 1 ≤ length (w ++ f)
-      → (behindSign (s ++ (w ++ (p ++ (f ++ x)))) ≡ w ++ (p ++ (f ++ x))) × (isMinus (s ++ (w ++ (p ++ (f ++ x)))) ≡ same s (text "-"))
-  sign-cut s (inl h) some = let u = unsigned some in rw h (rw (u .0, u .1), u .1)
-  sign-cut s (inr (inl h)) some = rw h (refl, refl)
-  sign-cut s (inr (inr h)) some = rw h (refl, refl)
+  sign-cut : (behindSign (s .sign ++ (s .whole ++ behind-whole)) ≡ s .whole ++ behind-whole) × (isMinus (s .sign ++ (s .whole ++ behind-whole)) ≡ same (s .sign) (text "-"))
+  sign-cut = go (s .sign) (s .whole ++ behind-whole) unsigned (s .a-sign)
+    where
+      go : (g u : List ℕ) → (begins 43 u ≡ false) × (begins 45 u ≡ false) → (g ≡ []) ⊎ ((g ≡ text "+") ⊎ (g ≡ text "-")) → (behindSign (g ++ u) ≡ u) × (isMinus (g ++ u) ≡ same g (text "-"))
+      go g u n (inl h) = rw h (rw (n .0, n .1), n .1)
+      go g u n (inr (inl h)) = rw h (refl, refl)
+      go g u n (inr (inr h)) = rw h (refl, refl)
 
-every-spelling : (t : List ℕ) (s : Spelling t) → Taken t s
+every-spelling : (t : List ℕ) (s : Spelling t) → ReadAs t s
 unfolding isScientific
 every-spelling t s =
-    let w = s .whole in let p = s .point in let f = s .fraction in let x = s .power in
-    let c = sign-cut w p f x (s .before) (s .behind) (s .a-point) (s .an-exponent) (s .sign) (s .a-sign) (s .a-digit) in
-    let u : behindSign t ≡ w ++ (p ++ (f ++ x)) = ap behindSign (s .together) ∙ c .0 in
-    let h : wholeDigits t ≡ w = ap (run isDigit) u ∙ whole-run w p f x (s .before) (s .behind) (s .a-point) (s .an-exponent) in
-    let a : afterPoint t ≡ f ++ x = ap (λ (l : List ℕ). behindPoint (behindRun isDigit l)) u ∙ after-is w p f x (s .before) (s .behind) (s .a-point) (s .an-exponent) in
-    let k : fractionDigits t ≡ f = ap (run isDigit) a ∙ fraction-run w p f x (s .before) (s .behind) (s .a-point) (s .an-exponent) in
-    let e : exponent t ≡ x = ap (behindRun isDigit) a ∙ power-left w p f x (s .before) (s .behind) (s .a-point) (s .an-exponent) in
+    let u = ap behindSign (s .together) ∙ sign-cut s .0 in
+    let h : wholeDigits t ≡ s .whole = ap (run isDigit) u ∙ whole-run s in
+    let a = ap (λ (l : List ℕ). behindPoint (behindRun isDigit l)) u ∙ after-is s in
+    let k : fractionDigits t ≡ s .fraction = ap (run isDigit) a ∙ fraction-run s in
+    let e : exponent t ≡ s .exponent = ap (behindRun isDigit) a ∙ exponent-left s in
     record {
-      form = rw (h, k, e, le-leb 1 (length (w ++ f)) (s .a-digit)) (s .an-exponent);
-      minus = ap isMinus (s .together) ∙ c .1;
+      form = rw (h, k, e, le-leb 1 (length (s .whole ++ s .fraction)) (s .a-digit)) (s .an-exponent);
+      minus = ap isMinus (s .together) ∙ sign-cut s .1;
       whole = h;
       fraction = k;
-      power = e;
+      exponent = e;
     }
 
 -- ---- and nothing else has the form
@@ -113,9 +118,9 @@ run-both : (s : List ℕ) → s ≡ run isDigit s ++ behindRun isDigit s
 run-both s = sym (take-append-drop (length (run isDigit s)) s) ∙ ap₂ _++_ (run-take isDigit s) (run-drop isDigit s)
 
 -- behind a run none begins
-run-over : (s : List ℕ) → run isDigit (behindRun isDigit s) ≡ []
-run-over [] = refl
-run-over (b ∷ s) = go (isDigit b) refl (run-over s)
+run-none : (s : List ℕ) → run isDigit (behindRun isDigit s) ≡ []
+run-none [] = refl
+run-none (b ∷ s) = go (isDigit b) refl (run-none s)
   where
     go : (c : Bool) → isDigit b ≡ c → run isDigit (behindRun isDigit s) ≡ [] → run isDigit (cond c (behindRun isDigit s) (b ∷ s)) ≡ []
     go true q h = h
@@ -153,13 +158,13 @@ only-spelled t h =
     let k = and-eq-true-iff (leb 1 (length (wholeDigits t ++ fractionDigits t))) (exponentOk (exponent t)) .0 h in
     let g = sign-is t in
     let r = behindRun isDigit (behindSign t) in
-    let c = point-cut r (run-over (behindSign t)) in
+    let c = point-cut r (run-none (behindSign t)) in
     record {
       sign = signOf t;
       whole = wholeDigits t;
       point = pointOf r;
       fraction = fractionDigits t;
-      power = exponent t;
+      exponent = exponent t;
       together = g .0 ∙ ap (λ (l : List ℕ). signOf t ++ l) (run-both (behindSign t)
           ∙ ap (λ (l : List ℕ). wholeDigits t ++ l) (c .0 ∙ ap (λ (l : List ℕ). pointOf r ++ l) (run-both (afterPoint t))));
       a-sign = g .1;

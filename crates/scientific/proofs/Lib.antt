@@ -1,3 +1,3 @@
-pub mod MovedLaws
+pub mod ShiftedLaws
 pub mod ReadLaws
 pub mod FormLaws

@@ -18,7 +18,7 @@ use Rattle.numbers.specs.declared.Number.{Number}
 use Rattle.numbers.specs.declared.Number.the-variants.{Is, Bad}
 use Rattle.numbers.proofs.DigitLaws.{value-below}
 use Rattle.scientific.specs.Decimal.{isMinus, behindSign, behindPoint, exponentDigits, exponentOk, raised, lowered, wholeDigits, afterPoint, fractionDigits, exponent, isScientific, isWhole, millionths, scientificOk}
-use Rattle.scientific.specs.Moved.{beyond, moved}
+use Rattle.scientific.specs.Shifted.{above, shifted}
 
 -- ---- the exponent
 
@@ -47,22 +47,22 @@ exponent-small (b ∷ e) h =
     let l = and-eq-true-iff (leb (length s) 3) _ .0 (and-eq-true-iff (leb 1 (length s)) _ .0 k .1) in
     small s (leb-true (length s) 3 (l .0)) (l .1)
 
-module _ (v f : ℕ) (e d r : List ℕ) (n : ℕ) (b : Bool) (ok : exponentOk e ≡ true) (ed : d ≡ exponentDigits e) (en : n ≡ min (valueFrom 0 d) 1000) (er : r ≡ drop 1 e) (eb : b ≡ isMinus r) where
+module _ (v f : ℕ) (e : List ℕ) {d r : List ℕ} {n : ℕ} {b : Bool} (ok : exponentOk e ≡ true) (ed : d ≡ exponentDigits e) (en : n ≡ min (valueFrom 0 d) 1000) (er : r ≡ drop 1 e) (eb : b ≡ isMinus r) where
   size : n ≡ valueFrom 0 (exponentDigits e)
   size = en ∙ ap (λ (s : List ℕ). min (valueFrom 0 s) 1000) ed ∙ exponent-small e ok
 
   minus : b ≡ isMinus (drop 1 e)
   minus = eb ∙ ap isMinus er
 
-  pub to-left : b ≡ true → moved v 6 (f + n) ≡ moved v (6 + raised e) (f + lowered e)
+  pub to-left : b ≡ true → shifted v 6 (f + n) ≡ shifted v (6 + raised e) (f + lowered e)
   to-left h =
       let q = sym minus ∙ h in
-      ap₂ (λ (x y : ℕ). moved v (6 + x) (f + y)) (sym (ap (λ (m : Bool). cond m 0 (valueFrom 0 (exponentDigits e))) q)) (size ∙ sym (ap (λ (m : Bool). cond m (valueFrom 0 (exponentDigits e)) 0) q))
+      ap₂ (λ (x y : ℕ). shifted v (6 + x) (f + y)) (sym (ap (λ (m : Bool). cond m 0 (valueFrom 0 (exponentDigits e))) q)) (size ∙ sym (ap (λ (m : Bool). cond m (valueFrom 0 (exponentDigits e)) 0) q))
 
-  pub to-right : b ≡ false → moved v (6 + n) (f + 0) ≡ moved v (6 + raised e) (f + lowered e)
+  pub to-right : b ≡ false → shifted v (6 + n) (f + 0) ≡ shifted v (6 + raised e) (f + lowered e)
   to-right h =
       let q = sym minus ∙ h in
-      ap₂ (λ (x y : ℕ). moved v (6 + x) (f + y)) (size ∙ sym (ap (λ (m : Bool). cond m 0 (valueFrom 0 (exponentDigits e))) q)) (sym (ap (λ (m : Bool). cond m (valueFrom 0 (exponentDigits e)) 0) q))
+      ap₂ (λ (x y : ℕ). shifted v (6 + x) (f + y)) (size ∙ sym (ap (λ (m : Bool). cond m 0 (valueFrom 0 (exponentDigits e))) q)) (sym (ap (λ (m : Bool). cond m (valueFrom 0 (exponentDigits e)) 0) q))
 
 -- ---- the parts
 
@@ -72,7 +72,7 @@ some-digits [] (x ∷ f) = lt-ltb 0 (length (x ∷ f)) (omega arith) ∙ sym (le
 some-digits (x ∷ w) f = rw (lt-ltb 0 (length (x ∷ w)) (omega arith), le-leb 1 (length (x ∷ (w ++ f))) (omega arith))
 
 -- a number n that is k where x holds and k is not above the most
-judged-is : (x : Bool) (k n : ℕ) (m : Bool) → n ≡ cond x (min k beyond) beyond
+judged-is : (x : Bool) (k n : ℕ) (m : Bool) → n ≡ cond x (min k above) above
     → cond (leb n 2097152000000 && (not m || eqb n 0)) (Is n) Bad ≡ cond (x && (leb k 2097152000000 && (not m || eqb k 0))) (Is k) Bad
 judged-is false k n m e = rw e
 judged-is true k n m e =
@@ -109,9 +109,9 @@ module _ {t w f e : List ℕ} (p : Parts t w f e) where
     unfolding scientificOk
     no-form h = rw (sym form ∙ h)
 
-    pub judged : s ≡ true → {n : ℕ} {m : Bool} {r : Number} → n ≡ moved (valueFrom 0 (w ++ f)) (6 + raised e) (length f + lowered e) → m ≡ isMinus t
+    pub judged : s ≡ true → {n : ℕ} {m : Bool} {r : Number} → n ≡ shifted (valueFrom 0 (w ++ f)) (6 + raised e) (length f + lowered e) → m ≡ isMinus t
         → r ≡ cond (leb n 2097152000000 && (not m || eqb n 0)) (Is n) Bad → r ≡ cond (scientificOk 2097152000000 t) (Is (millionths t)) Bad
-    unfolding scientificOk isWhole millionths moved
+    unfolding scientificOk isWhole millionths shifted
     judged h {n} {m} {r} en em er =
-        let q : n ≡ cond (isWhole t) (min (millionths t) beyond) beyond = rw (en, p .whole-is, p .fraction-is, p .exponent-is) in
+        let q : n ≡ cond (isWhole t) (min (millionths t) above) above = rw (en, p .whole-is, p .fraction-is, p .exponent-is) in
         er ∙ judged-is (isWhole t) (millionths t) n m q ∙ rw (sym form ∙ h, em)

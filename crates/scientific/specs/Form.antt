@@ -6,7 +6,8 @@ use mathlib.Core.Bool.{true}
 use mathlib.Core.List.{List, [], _++_}
 use lib.ListN.{length}
 use Rattle.output.specs.Text.{text, same, isDigit, all}
-use Rattle.scientific.specs.Decimal.{isMinus, exponentOk, wholeDigits, fractionDigits, exponent, isScientific}
+use Rattle.scientific.specs.Decimal as decimal
+use Rattle.scientific.specs.Decimal.{isMinus, exponentOk, wholeDigits, fractionDigits, isScientific}
 
 -- a sign if any, digits, a point if any and digits behind it, not without a digit, and an exponent if any: nothing before, between or behind
 pub record Spelling (t : List ℕ) : Type 0 where
@@ -14,23 +15,23 @@ pub record Spelling (t : List ℕ) : Type 0 where
   pub whole : List ℕ
   pub point : List ℕ
   pub fraction : List ℕ
-  pub power : List ℕ
-  pub together : t ≡ sign ++ (whole ++ (point ++ (fraction ++ power)))
+  pub exponent : List ℕ
+  pub together : t ≡ sign ++ (whole ++ (point ++ (fraction ++ exponent)))
   pub a-sign : (sign ≡ []) ⊎ ((sign ≡ text "+") ⊎ (sign ≡ text "-"))
   pub before : all isDigit whole ≡ true
   pub a-point : ((point ≡ []) × (fraction ≡ [])) ⊎ (point ≡ text ".")
   pub behind : all isDigit fraction ≡ true
   pub a-digit : 1 ≤ length (whole ++ fraction)
-  pub an-exponent : exponentOk power ≡ true
+  pub an-exponent : exponentOk exponent ≡ true
 
 -- a text that is put together so has the form, and these parts
-pub record Taken (t : List ℕ) (s : Spelling t) : Type 0 where
+pub record ReadAs (t : List ℕ) (s : Spelling t) : Type 0 where
   pub form : isScientific t ≡ true
   pub minus : isMinus t ≡ same (s .sign) (text "-")
   pub whole : wholeDigits t ≡ s .whole
   pub fraction : fractionDigits t ≡ s .fraction
-  pub power : exponent t ≡ s .power
+  pub exponent : decimal.exponent t ≡ s .exponent
 
 pub record Form : Type 0 where
-  pub every : (t : List ℕ) (s : Spelling t) → Taken t s
+  pub every : (t : List ℕ) (s : Spelling t) → ReadAs t s
   pub only : (t : List ℕ) → isScientific t ≡ true → Spelling t

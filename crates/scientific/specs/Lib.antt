@@ -1,3 +1,3 @@
 pub mod Decimal
 pub mod Form
-pub mod Moved
+pub mod Shifted

@@ -9,13 +9,13 @@ ghost use lib.ListN.{length};
 ghost use Rattle.output.specs.Text as text;
 ghost use Rattle.output.specs.Read.{valueFrom};
 ghost use Rattle.scientific.specs.Decimal as decimal;
-ghost use Rattle.scientific.specs.Moved as points;
+ghost use Rattle.scientific.specs.Shifted as points;
 
 // Digits of a millionth behind the point.
 const PLACES: usize = 6;
 
 // Above every number that is taken.
-const BEYOND: u64 = numbers::LAST_DIFFERENCE + 1;
+const ABOVE: u64 = numbers::LAST_DIFFERENCE + 1;
 
 // Above every exponent.
 const EXPONENTS: u64 = 1000;
@@ -80,10 +80,10 @@ fn is_scientific(whole: &[u8], fraction: &[u8], exponent: &[u8]) -> bool
 }
 
 // The digits `whole`, a point and the digits `fraction`, with the point moved `up` places to the right and `down` to the left:
-// BEYOND where they make more, or where digits other than zeros are left behind the point.
-fn moved(whole: &[u8], fraction: &[u8], up: usize, down: usize) -> u64
+// ABOVE where they make more, or where digits other than zeros are left behind the point.
+fn shifted(whole: &[u8], fraction: &[u8], up: usize, down: usize) -> u64
     requires { ⌜ (text.all text.isDigit (now whole) ≡ true) × (text.all text.isDigit (now fraction) ≡ true) ⌝ }
-    ensures { λ r. ⌜ r ≡ points.moved (valueFrom 0 (now (whole .entry) ++ now (fraction .entry))) up (length (now (fraction .entry)) + down) ⌝ }
+    ensures { λ r. ⌜ r ≡ points.shifted (valueFrom 0 (now (whole .entry) ++ now (fraction .entry))) up (length (now (fraction .entry)) + down) ⌝ }
 {
     let right = less(up, down);
     let keep = less(whole.len(), less(down, up));
@@ -93,25 +93,25 @@ fn moved(whole: &[u8], fraction: &[u8], up: usize, down: usize) -> u64
         1,
     );
     if 0 < left_behind {
-        return BEYOND;
+        return ABOVE;
     }
     let high = texts::prefix(whole, keep);
     let low = texts::prefix(fraction, right);
     let zeros = less(right, fraction.len());
-    numbers::with_zeros(numbers::both_value(high, low, BEYOND), zeros, BEYOND)
+    numbers::with_zeros(numbers::both_value(high, low, ABOVE), zeros, ABOVE)
 }
 
 // The same in millionths, with the point moved as the exponent says.
 fn millionths(whole: &[u8], fraction: &[u8], exponent: &[u8]) -> u64
     requires { ⌜ ((text.all text.isDigit (now whole) ≡ true) × (text.all text.isDigit (now fraction) ≡ true)) × (decimal.exponentOk (now exponent) ≡ true) ⌝ }
-    ensures { λ r. ⌜ r ≡ points.moved (valueFrom 0 (now (whole .entry) ++ now (fraction .entry))) (6 + decimal.raised (now (exponent .entry))) (length (now (fraction .entry)) + decimal.lowered (now (exponent .entry))) ⌝ }
+    ensures { λ r. ⌜ r ≡ points.shifted (valueFrom 0 (now (whole .entry) ++ now (fraction .entry))) (6 + decimal.raised (now (exponent .entry))) (length (now (fraction .entry)) + decimal.lowered (now (exponent .entry))) ⌝ }
 {
     // at most 1,000, so the cast loses nothing
     let size = numbers::digits_value(exponent_digits(exponent), EXPONENTS) as usize;
     if texts::begins(texts::rest(exponent, 1), b'-') {
-        return moved(whole, fraction, PLACES, size);
+        return shifted(whole, fraction, PLACES, size);
     }
-    moved(whole, fraction, PLACES + size, 0)
+    shifted(whole, fraction, PLACES + size, 0)
 }
 
 // A number that is not above the most, and with a minus only 0.

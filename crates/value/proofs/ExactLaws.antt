@@ -56,14 +56,14 @@ module _ (v up down : ℕ) where
       (λ (z : 0 < up - down). let y : down - up ≡ 0 = omega arith in inr (ap (λ (k : ℕ). 10 ^ k) y))
       (eq-zero-or-pos (up - down))
 
-  moved-out : v % 10 ^ (down - up) ≡ 0 → v * 10 ^ (up - down) / 10 ^ (down - up) * 10 ^ down ≡ v * 10 ^ up
-  moved-out e =
+  shifted-out : v % 10 ^ (down - up) ≡ 0 → v * 10 ^ (up - down) / 10 ^ (down - up) * 10 ^ down ≡ v * 10 ^ up
+  shifted-out e =
       ap (λ (x : ℕ). v * 10 ^ (up - down) / 10 ^ (down - up) * x) down-is
       ∙ shared-out v (10 ^ (up - down)) (10 ^ (down - up)) (10 ^ min up down) (one-le-pow (down - up) 10 (omega arith)) e
       ∙ ap (λ (x : ℕ). v * x) (sym up-is)
 
-  moved-in : (n : ℕ) → n * 10 ^ down ≡ v * 10 ^ up → (v % 10 ^ (down - up) ≡ 0) × (v * 10 ^ (up - down) / 10 ^ (down - up) ≡ n)
-  moved-in n e =
+  shifted-in : (n : ℕ) → n * 10 ^ down ≡ v * 10 ^ up → (v % 10 ^ (down - up) ≡ 0) × (v * 10 ^ (up - down) / 10 ^ (down - up) ≡ n)
+  shifted-in n e =
       shared-in v (10 ^ (up - down)) (10 ^ (down - up)) (10 ^ min up down) n (one-le-pow (down - up) 10 (omega arith)) (one-le-pow (min up down) 10 (omega arith)) one-of
       (ap (λ (x : ℕ). n * x) (sym down-is) ∙ e ∙ ap (λ (x : ℕ). v * x) up-is)
 
@@ -82,7 +82,7 @@ only-exact t n h = go (scientificOk 2097152000000 t) refl h
         let c = and-eq-true-iff (leb (millionths t) 2097152000000) _ .0 (b .1) in
         record {
           form = a .0;
-          number = ap (λ (k : ℕ). k * 10 ^ placesDown t) (sym z) ∙ moved-out (valueFrom 0 (digits t)) (placesUp t) (placesDown t) (eqb-true _ 0 (b .0));
+          number = ap (λ (k : ℕ). k * 10 ^ placesDown t) (sym z) ∙ shifted-out (valueFrom 0 (digits t)) (placesUp t) (placesDown t) (eqb-true _ 0 (b .0));
           most = subst (λ (k : ℕ). k ≤ 2097152000000) z (leb-true _ _ (c .0));
           sign = λ m. sym z ∙ eqb-true (millionths t) 0 (ap (λ (s : Bool). not s || eqb (millionths t) 0) (sym m) ∙ c .1);
         }
@@ -90,7 +90,7 @@ only-exact t n h = go (scientificOk 2097152000000 t) refl h
 every-exact : (t : List ℕ) (n : ℕ) → Exact t n → floatDifferenceOf t ≡ Is n
 unfolding floatDifferenceOf scientificOk isWhole millionths
 every-exact t n x =
-    let m = moved-in (valueFrom 0 (digits t)) (placesUp t) (placesDown t) n (x .number) in
+    let m = shifted-in (valueFrom 0 (digits t)) (placesUp t) (placesDown t) n (x .number) in
     rw (x .form, eq-eqb _ 0 (m .0), m .1, le-leb n 2097152000000 (x .most), signed (isMinus t) (x .sign))
   where
     signed : (b : Bool) → (b ≡ true → n ≡ 0) → (not b || eqb n 0) ≡ true

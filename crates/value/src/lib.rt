@@ -383,9 +383,9 @@ fn read_decimal(t: &[u8], places: usize, least: u64, most: u64) -> Parameter
     if places < fraction.len() {
         return Parameter::Bad;
     }
-    let beyond = most + 1;
-    let digits = numbers::both_value(whole, fraction, beyond);
-    let number = numbers::with_zeros(digits, places - fraction.len(), beyond);
+    let above = most + 1;
+    let digits = numbers::both_value(whole, fraction, above);
+    let number = numbers::with_zeros(digits, places - fraction.len(), above);
     if (number < least) | (most < number) {
         return Parameter::Bad;
     }
