@@ -10,12 +10,108 @@ use lib.Dec.{eqb, leb}
 use lib.ListN.{length, take, drop, take-append-drop}
 use borrow.Author.Tests.{le-leb, leb-true, eqb-true, ne-eqb}
 use Rattle.output.specs.Text.{text, same, isDigit, all, run, behindRun}
+use Rattle.output.specs.Read.{valueFrom}
 use Rattle.output.proofs.TextLaws.{digit-range}
 use Rattle.output.proofs.RunLaws.{run-take, run-drop, run-all, run-append, behind-append}
 use Rattle.texts.specs.Class.{begins}
 use Rattle.scientific.specs.Decimal.{isMinus, behindSign, behindPoint, exponentDigits, exponentOk, wholeDigits, afterPoint, fractionDigits, exponent, isScientific}
-use Rattle.scientific.specs.Form.{Spelling, ReadAs, Form}
+use Rattle.scientific.specs.Form.{IsSign, Exponent, Spelling, ReadAs, Moves, Form}
 use Rattle.scientific.proofs.ReadLaws.{or-second}
+
+-- ---- signs
+
+-- digits begin with no sign
+digits-unsigned : (z : List ℕ) → all isDigit z ≡ true → (begins 43 z ≡ false) × (begins 45 z ≡ false)
+digits-unsigned [] d = (refl, refl)
+digits-unsigned (b ∷ z) d =
+    let r = digit-range b (and-eq-true-iff (isDigit b) (all isDigit z) .0 d .0) in
+    (ne-eqb b 43 (λ (y : b ≡ 43). omega (arith, r .0)), ne-eqb b 45 (λ (y : b ≡ 45). omega (arith, r .0)))
+
+-- a sign is cut off what begins with none
+sign-cut : (g u : List ℕ) → (begins 43 u ≡ false) × (begins 45 u ≡ false) → IsSign g → (behindSign (g ++ u) ≡ u) × (isMinus (g ++ u) ≡ same g (text "-"))
+sign-cut g u n (inl h) = rw h (rw (n .0, n .1), n .1)
+sign-cut g u n (inr (inl h)) = rw h (refl, refl)
+sign-cut g u n (inr (inr h)) = rw h (refl, refl)
+
+-- the sign, and the point, that a text begins with
+abbrev signOf : List ℕ → List ℕ
+signOf t = cond (begins 43 t || begins 45 t) (take 1 t) []
+
+abbrev pointOf : List ℕ → List ℕ
+pointOf t = cond (begins 46 t) (take 1 t) []
+
+sign-is : (t : List ℕ) → (t ≡ signOf t ++ behindSign t) × (IsSign (signOf t))
+sign-is [] = (refl, inl refl)
+sign-is (b ∷ s) = go (eqb b 43) refl (eqb b 45) refl
+  where
+    go : (c : Bool) → eqb b 43 ≡ c → (d : Bool) → eqb b 45 ≡ d
+        → ((b ∷ s) ≡ cond (c || d) (b ∷ []) [] ++ cond (c || d) s (b ∷ s)) × IsSign (cond (c || d) (b ∷ []) [])
+    go true q d r = (refl, inr (inl (ap (λ (k : ℕ). k ∷ []) (eqb-true b 43 q))))
+    go false q true r = (refl, inr (inr (ap (λ (k : ℕ). k ∷ []) (eqb-true b 45 r))))
+    go false q false r = (refl, inl refl)
+
+-- ---- exponents
+
+module _ {e : List ℕ} (x : Exponent e) where
+  behind-mark : drop 1 e ≡ x .sign ++ x .size
+  behind-mark = ap (drop 1) (x .together) ∙ go (x .mark) (x .a-mark)
+    where
+      go : (m : List ℕ) → (m ≡ text "e") ⊎ (m ≡ text "E") → drop 1 (m ++ (x .sign ++ x .size)) ≡ x .sign ++ x .size
+      go m (inl h) = rw h
+      go m (inr h) = rw h
+
+  size-cut : (behindSign (drop 1 e) ≡ x .size) × (isMinus (drop 1 e) ≡ same (x .sign) (text "-"))
+  size-cut = let c = sign-cut (x .sign) (x .size) (digits-unsigned (x .size) (x .digits)) (x .a-sign) in (ap behindSign behind-mark ∙ c .0, ap isMinus behind-mark ∙ c .1)
+
+  has-mark : (begins (code "e") e || begins (code "E") e) ≡ true
+  has-mark = ap (λ (l : List ℕ). begins (code "e") l || begins (code "E") l) (x .together) ∙ go (x .mark) (x .a-mark)
+    where
+      go : (m : List ℕ) → (m ≡ text "e") ⊎ (m ≡ text "E") → (begins (code "e") (m ++ (x .sign ++ x .size)) || begins (code "E") (m ++ (x .sign ++ x .size))) ≡ true
+      go m (inl h) = rw h
+      go m (inr h) = rw h
+
+  exponent-ok : exponentOk e ≡ true
+  unfolding exponentOk
+  exponent-ok =
+      ap (λ (b : Bool). eqb (length e) 0 || b)
+      (rw (has-mark, size-cut .0, le-leb 1 (length (x .size)) (x .one), le-leb (length (x .size)) 3 (x .to-three)) (x .digits))
+      ∙ or-true (eqb (length e) 0)
+    where
+      or-true : (b : Bool) → (b || true) ≡ true
+      or-true true = refl
+      or-true false = refl
+
+every-exponent : (e : List ℕ) (x : Exponent e) → Moves e x
+every-exponent e x =
+    record {
+      right = ap₂ (λ (m : Bool) (d : List ℕ). cond m 0 (valueFrom 0 d)) (size-cut x .1) (size-cut x .0);
+      left = ap₂ (λ (m : Bool) (d : List ℕ). cond m (valueFrom 0 d) 0) (size-cut x .1) (size-cut x .0);
+    }
+
+only-exponent : (e : List ℕ) → exponentOk e ≡ true → (e ≡ []) ⊎ Exponent e
+unfolding exponentOk
+only-exponent [] h = inl refl
+only-exponent (b ∷ s) h =
+    let some : eqb (length (b ∷ s)) 0 ≡ false = ne-eqb (length (b ∷ s)) 0 (λ z. omega arith) in
+    let m = and-eq-true-iff (eqb b 101 || eqb b 69) _ .0 (or-second (eqb (length (b ∷ s)) 0) _ some h) in
+    let l = and-eq-true-iff (leb 1 (length (behindSign s))) _ .0 (m .1) in
+    let d = and-eq-true-iff (leb (length (behindSign s)) 3) _ .0 (l .1) in
+    let g = sign-is s in
+    inr (record {
+      mark = b ∷ [];
+      sign = signOf s;
+      size = behindSign s;
+      together = ap (λ (r : List ℕ). b ∷ r) (g .0);
+      a-mark = go (eqb b 101) refl (m .0);
+      a-sign = g .1;
+      digits = d .1;
+      one = leb-true 1 (length (behindSign s)) (l .0);
+      to-three = leb-true (length (behindSign s)) 3 (d .0);
+    })
+  where
+    go : (c : Bool) → eqb b 101 ≡ c → (c || eqb b 69) ≡ true → ((b ∷ []) ≡ text "e") ⊎ ((b ∷ []) ≡ text "E")
+    go true q h = inl (ap (λ (k : ℕ). k ∷ []) (eqb-true b 101 q))
+    go false q h = inr (ap (λ (k : ℕ). k ∷ []) (eqb-true b 69 h))
 
 -- ---- texts that begin with no digit
 
@@ -50,8 +146,16 @@ module _ {t : List ℕ} (s : Spelling t) where
   abbrev behind-whole : List ℕ
   behind-whole = s .point ++ (s .fraction ++ s .exponent)
 
+  exponent-fits : exponentOk (s .exponent) ≡ true
+  unfolding exponentOk
+  exponent-fits = go (s .exponent) (s .an-exponent)
+    where
+      go : (e : List ℕ) → (e ≡ []) ⊎ Exponent e → exponentOk e ≡ true
+      go e (inl h) = rw h
+      go e (inr x) = exponent-ok x
+
   ends : Ends (s .exponent)
-  ends = exponent-ends (s .exponent) (s .an-exponent)
+  ends = exponent-ends (s .exponent) exponent-fits
 
   -- no digit follows them, and behind a point the fraction does
   point-is : (run isDigit behind-whole ≡ []) × ((behindRun isDigit behind-whole ≡ behind-whole) × (behindPoint behind-whole ≡ s .fraction ++ s .exponent))
@@ -83,30 +187,22 @@ module _ {t : List ℕ} (s : Spelling t) where
           → (begins 43 (w ++ (p ++ (f ++ s .exponent))) ≡ false) × (begins 45 (w ++ (p ++ (f ++ s .exponent))) ≡ false)
       go [] p f d l (inl h) = absurd (omega (arith, ap length (h .1)))
       go [] p f d l (inr h) = rw h (refl, refl)
-      go (b ∷ w) p f d l h =
-          let r = digit-range b (and-eq-true-iff (isDigit b) (all isDigit w) .0 d .0) in
-          (ne-eqb b 43 (λ (z : b ≡ 43). omega (arith, r .0)), ne-eqb b 45 (λ (z : b ≡ 45). omega (arith, r .0)))
+      go (b ∷ w) p f d l h = let n = digits-unsigned (b ∷ w) d in (n .0, n .1)
 
-  -- a sign is cut off
-  sign-cut : (behindSign (s .sign ++ (s .whole ++ behind-whole)) ≡ s .whole ++ behind-whole) × (isMinus (s .sign ++ (s .whole ++ behind-whole)) ≡ same (s .sign) (text "-"))
-  sign-cut = go (s .sign) (s .whole ++ behind-whole) unsigned (s .a-sign)
-    where
-      go : (g u : List ℕ) → (begins 43 u ≡ false) × (begins 45 u ≡ false) → (g ≡ []) ⊎ ((g ≡ text "+") ⊎ (g ≡ text "-")) → (behindSign (g ++ u) ≡ u) × (isMinus (g ++ u) ≡ same g (text "-"))
-      go g u n (inl h) = rw h (rw (n .0, n .1), n .1)
-      go g u n (inr (inl h)) = rw h (refl, refl)
-      go g u n (inr (inr h)) = rw h (refl, refl)
+  signed : (behindSign (s .sign ++ (s .whole ++ behind-whole)) ≡ s .whole ++ behind-whole) × (isMinus (s .sign ++ (s .whole ++ behind-whole)) ≡ same (s .sign) (text "-"))
+  signed = sign-cut (s .sign) (s .whole ++ behind-whole) unsigned (s .a-sign)
 
 every-spelling : (t : List ℕ) (s : Spelling t) → ReadAs t s
 unfolding isScientific
 every-spelling t s =
-    let u = ap behindSign (s .together) ∙ sign-cut s .0 in
+    let u = ap behindSign (s .together) ∙ signed s .0 in
     let h : wholeDigits t ≡ s .whole = ap (run isDigit) u ∙ whole-run s in
     let a = ap (λ (l : List ℕ). behindPoint (behindRun isDigit l)) u ∙ after-is s in
     let k : fractionDigits t ≡ s .fraction = ap (run isDigit) a ∙ fraction-run s in
     let e : exponent t ≡ s .exponent = ap (behindRun isDigit) a ∙ exponent-left s in
     record {
-      form = rw (h, k, e, le-leb 1 (length (s .whole ++ s .fraction)) (s .a-digit)) (s .an-exponent);
-      minus = ap isMinus (s .together) ∙ sign-cut s .1;
+      form = rw (h, k, e, le-leb 1 (length (s .whole ++ s .fraction)) (s .a-digit)) (exponent-fits s);
+      minus = ap isMinus (s .together) ∙ signed s .1;
       whole = h;
       fraction = k;
       exponent = e;
@@ -125,23 +221,6 @@ run-none (b ∷ s) = go (isDigit b) refl (run-none s)
     go : (c : Bool) → isDigit b ≡ c → run isDigit (behindRun isDigit s) ≡ [] → run isDigit (cond c (behindRun isDigit s) (b ∷ s)) ≡ []
     go true q h = h
     go false q h = rw q
-
--- the sign, and the point, that a text begins with
-abbrev signOf : List ℕ → List ℕ
-signOf t = cond (begins 43 t || begins 45 t) (take 1 t) []
-
-abbrev pointOf : List ℕ → List ℕ
-pointOf t = cond (begins 46 t) (take 1 t) []
-
-sign-is : (t : List ℕ) → (t ≡ signOf t ++ behindSign t) × ((signOf t ≡ []) ⊎ ((signOf t ≡ text "+") ⊎ (signOf t ≡ text "-")))
-sign-is [] = (refl, inl refl)
-sign-is (b ∷ s) = go (eqb b 43) refl (eqb b 45) refl
-  where
-    go : (c : Bool) → eqb b 43 ≡ c → (d : Bool) → eqb b 45 ≡ d
-        → ((b ∷ s) ≡ cond (c || d) (b ∷ []) [] ++ cond (c || d) s (b ∷ s)) × ((cond (c || d) (b ∷ []) [] ≡ []) ⊎ ((cond (c || d) (b ∷ []) [] ≡ text "+") ⊎ (cond (c || d) (b ∷ []) [] ≡ text "-")))
-    go true q d r = (refl, inr (inl (ap (λ (k : ℕ). k ∷ []) (eqb-true b 43 q))))
-    go false q true r = (refl, inr (inr (ap (λ (k : ℕ). k ∷ []) (eqb-true b 45 r))))
-    go false q false r = (refl, inl refl)
 
 point-cut : (r : List ℕ) → run isDigit r ≡ [] → (r ≡ pointOf r ++ behindPoint r) × (((pointOf r ≡ []) × (run isDigit (behindPoint r) ≡ [])) ⊎ (pointOf r ≡ text "."))
 point-cut [] h = (refl, inl (refl, refl))
@@ -172,8 +251,8 @@ only-spelled t h =
       a-point = c .1;
       behind = run-all isDigit (afterPoint t);
       a-digit = leb-true 1 (length (wholeDigits t ++ fractionDigits t)) (k .0);
-      an-exponent = k .1;
+      an-exponent = only-exponent (exponent t) (k .1);
     }
 
 pub form : Form
-form = record { every = every-spelling; only = only-spelled }
+form = record { every = every-spelling; only = only-spelled; moves = every-exponent }
