@@ -14,7 +14,7 @@ use Rattle.machine.specs.State.{noSubscription}
 use Rattle.machine.proofs.PlacesLaws.{length-tabulate, getD-tabulate, tabulate-same}
 use Rattle.machine.proofs.StoreLaws.{set-by-place}
 use Rattle.machine.proofs.TestLaws.{and-true, and-in, test-same}
-use Rattle.device.proofs.RowLaws.{not-none}
+use Rattle.machine.proofs.TestLaws.{not-none}
 
 -- whether a place is one of the client's first j
 abbrev isIn : ℕ → ℕ → ℕ → Bool

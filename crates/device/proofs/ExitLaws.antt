@@ -20,7 +20,7 @@ use Rattle.machine.specs.Declined.{Action, refusal}
 use Rattle.machine.specs.Machine.{perform}
 use Rattle.sampling.specs.Visits.{moment, visiting}
 use Rattle.declining.proofs.AnswerLaws.{numberOf, Answers, by-parts, refused, performed}
-use Rattle.device.proofs.RowLaws.{not-none}
+use Rattle.machine.proofs.TestLaws.{not-none}
 
 module _ (s : State) (action : Action) (lent : List ℕ) {r : Answer} where
   -- what the machine makes of the call where the number is 0, else the state as it was and nothing sent

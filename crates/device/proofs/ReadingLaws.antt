@@ -29,7 +29,7 @@ use Rattle.sampling.specs.Visits.{moment}
 use Rattle.declining.proofs.AnswerLaws.{rowsThen, numberOf}
 use Rattle.declining.proofs.RowsLaws.{Row, row, row-declines, rows-pass, rows-rest}
 use Rattle.device.specs.Parts.{readingsAfter}
-use Rattle.device.proofs.RowLaws.{not-none}
+use Rattle.machine.proofs.TestLaws.{not-none}
 
 -- Rows 1, 2, 3 and 9, before row 10 is asked.
 

@@ -1,12 +1,10 @@
 -- Numbers of rows, and the rows of `connect` and `disconnect`.
-use Prim.Native.Nat.{ℕ, suc, _≤_, _<_}
+use Prim.Native.Nat.{ℕ, _≤_, _<_}
 use native.Mathlib.Omega.{arith}
 use mathlib.Core.Path.{_≡_, sym, _∙_}
-use mathlib.Core.Bool.{Bool, false, cond}
+use mathlib.Core.Bool.{Bool, cond}
 use mathlib.Core.List.{List}
-use lib.Dec.{eqb}
 use lib.ListN.{length}
-use borrow.Author.Tests.{ne-eqb}
 use Rattle.machine.specs.declared.State.{State}
 use Rattle.machine.specs.Range.{inRange}
 use Rattle.machine.specs.Declined.{clientDeclined, addressFits}
@@ -14,10 +12,6 @@ use Rattle.machine.proofs.TestLaws.{fitted}
 use Rattle.machine.proofs.StepLaws.{client-fits}
 use Rattle.machine.proofs.Sent.{address-most}
 use Rattle.declining.proofs.AnswerLaws.{rowsThen, own-passes}
-
--- a number behind 0 is not 0
-pub not-none : (n : ℕ) → eqb (suc n) 0 ≡ false
-not-none n = ne-eqb (suc n) 0 (λ z. omega arith)
 
 -- rows 5 and 6 for the same test and the same rows behind them
 pub client-same : (c : ℕ) {refused r : Bool} {own o : ℕ} → refused ≡ r → own ≡ o → clientDeclined refused c own ≡ clientDeclined r c o

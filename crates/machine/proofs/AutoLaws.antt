@@ -1,4 +1,4 @@
--- Under auto an accepted reading gives the archive one line, its report.
+-- Under auto a reading that supersedes gives the archive one line, its report.
 use Prim.Native.Nat.{ℕ, _+_, _*_, _/_, _%_, _≤_, _<_}
 use native.Mathlib.Omega.{arith}
 use mathlib.Core.Path.{_≡_, refl, ap, ap₂, sym, _∙_, subst}
@@ -9,22 +9,21 @@ use borrow.Author.Tests.{eqb-true, lt-ltb}
 use Rattle.message.specs.Message.{line}
 use Rattle.message.specs.Delivery.{to}
 use Rattle.line.specs.Line.{WellFormed}
-use Rattle.value.specs.declared.Reading.{Reading as Given}
-use Rattle.value.specs.declared.Sample.{Sample}
 use Rattle.machine.specs.declared.Sensor.{Sensor}
 use Rattle.machine.specs.declared.State.{State}
 use Rattle.machine.specs.declared.Stored.{Stored}
 use Rattle.machine.specs.declared.Strategy.the-variants.{Auto}
 use Rattle.machine.specs.declared.Cause.the-variants.{Reading as Read}
-use Rattle.machine.specs.Places.{oneIf, isZero}
+use Rattle.machine.specs.Places.{oneIf}
 use Rattle.machine.specs.Sheet.{sensorOf}
 use Rattle.machine.specs.State.{connected, pairAt, pairOf, withReading}
 use Rattle.machine.specs.Messages.{report, reportOf}
 use Rattle.machine.specs.Report.{due, dueBy, dueAt, pairSends, visit}
-use Rattle.machine.specs.Declined.{Reading, Call, callOf}
-use Rattle.machine.specs.Machine.{Effect, perform, step, sampleGiven}
+use Rattle.machine.specs.Declined.{Arrival, Reading, Call, callOf}
+use Rattle.machine.specs.Machine.{Effect, step, sampleGiven, storedGiven}
 use Rattle.machine.specs.Reader.{Reported, toldOf}
-use Rattle.machine.specs.TwoDevices.{after, sheetOf, returnedZero, connectedAtEnd, linesTo, linesOf, sentTo, strategyOf, clockOf}
+use Rattle.machine.specs.TwoDevices.{after, sheetOf, connectedAtEnd, linesTo, linesOf, sentTo, strategyOf, clockOf}
+use Rattle.machine.specs.LateReadings.{Newer}
 use Rattle.machine.specs.Tells.{newsIn, lineNews, reportGiven, AutoShows}
 use Rattle.machine.proofs.TestLaws.{and-true, cond-true, eqb-refl}
 use Rattle.machine.proofs.StateLaws.{place-client, place-sensor, stored-after}
@@ -33,17 +32,16 @@ use Rattle.machine.proofs.KeptInRange.{after-in-range}
 use Rattle.machine.proofs.OpenedRange.{opened-range}
 use Rattle.machine.proofs.SampleRange.{given-fits}
 use Rattle.machine.proofs.NewsLaws.{news-report}
-use Rattle.machine.proofs.StepLaws.{by-cases}
 use Rattle.machine.proofs.HeardLaws.{sent-at-one}
 use Rattle.machine.proofs.FileLaws.{line-parses}
 use Rattle.machine.proofs.SentSizes.{sound-report}
 use Rattle.machine.proofs.Sent.{sound-well-formed}
-use Rattle.machine.proofs.ListLaws.{sheet-is, clock-is, sent-packets, at-end-small}
+use Rattle.machine.proofs.ListLaws.{sheet-is, clock-is, by-newer, sent-packets, at-end-small}
 use Rattle.machine.proofs.ArchiveLaws.{lines-packed}
 use Rattle.machine.proofs.TellsLaws.{sheet-rules, on, strategy-held}
 use Rattle.machine.proofs.MomentLaws.{no-connect, still-on, more-lines, on-then, start-of}
 
-module _ (s : State) (a j : ℕ) (ha : a < 8) (hj : j < 32) (x : Sample) where
+module _ (s : State) (a j : ℕ) (ha : a < 8) (hj : j < 32) (x : Stored) where
   -- the state in which the pairs are visited
   abbrev read : State
   read = withReading s j x
@@ -64,18 +62,18 @@ module _ (s : State) (a j : ℕ) (ha : a < 8) (hj : j < 32) (x : Sample) where
       go true true p q = absurd (n (omega (arith, eqb-true (i / 32) a q, eqb-true j (i % 32) (concerned i p))))
 
   own-report : connected s a ≡ true → j < s .sheet .count → pairOf s a j .strategy ≡ Auto
-      → sentTo a (pairSends (s .sheet) read (Read j) (a * 32 + j)) ≡ report (s .clock) (sensorOf (s .sheet) j) x ∷ []
+      → sentTo a (pairSends (s .sheet) read (Read j) (a * 32 + j)) ≡ report (s .clock) (sensorOf (s .sheet) j) (x .sample) ∷ []
   unfolding pairSends sentTo dueAt due dueBy withReading
   own-report on hs st = rw (place-client a j hj, place-sensor a j hj, on, lt-ltb j (s .sheet .count) hs, eqb-refl j, st, eqb-refl a)
       (ap (λ (y : Stored). report (s .clock) (sensorOf (s .sheet) j) (y .sample) ∷ []) (stored-after s j j x hj ∙ cond-true (eqb j j) _ _ (eqb-refl j)))
 
   pub sent-of-reading : connected s a ≡ true → j < s .sheet .count → pairOf s a j .strategy ≡ Auto
-      → sentTo a (visit (s .sheet) read (Read j) .sent) ≡ report (s .clock) (sensorOf (s .sheet) j) x ∷ []
+      → sentTo a (visit (s .sheet) read (Read j) .sent) ≡ report (s .clock) (sensorOf (s .sheet) j) (x .sample) ∷ []
   sent-of-reading on hs st = sent-at-one a (pairSends (s .sheet) read (Read j)) 256 (a * 32 + j) (omega arith) others-silent ∙ own-report on hs st
 
 -- Over a list of calls.
 
-module _ (bytes : List ℕ) (a j : ℕ) (hs : j < sheetOf bytes .count) (r : Given) where
+module _ (bytes : List ℕ) (a j : ℕ) (hs : j < sheetOf bytes .count) (r : Arrival) where
   abbrev n : Sensor
   n = sensorOf (sheetOf bytes) j
 
@@ -83,16 +81,15 @@ module _ (bytes : List ℕ) (a j : ℕ) (hs : j < sheetOf bytes .count) (r : Giv
   hj = omega (arith, sheet-rules bytes .count-most)
 
   -- the sample that a device of the sheet makes of the reading, whatever state holds the sheet
-  given-sent : (h : List Call) (lent : List ℕ) → connectedAtEnd bytes a h ≡ true → returnedZero bytes h (callOf (Reading j r) lent) ≡ true → strategyOf bytes a j h ≡ Auto
+  given-sent : (h : List Call) (lent : List ℕ) → connectedAtEnd bytes a h ≡ true → Newer bytes j r lent h → strategyOf bytes a j h ≡ Auto
       → sentTo a (step (after bytes h) (callOf (Reading j r) lent) .sent) ≡ report (clockOf bytes h) n (sampleGiven n r) ∷ []
-  unfolding perform
-  given-sent h lent c z st = by-cases (λ (e : Effect). isZero (e .number) ≡ true → sentTo a (e .sent) ≡ report (clockOf bytes h) n (sampleGiven n r) ∷ []) (after bytes h) (callOf (Reading j r) lent)
-      (λ _ _. sent-of-reading (after bytes h) a j (at-end-small bytes a h c) hj (sampleGiven (sensorOf (after bytes h .sheet) j) r) (on bytes a h c)
+  given-sent h lent c z st = by-newer bytes j hj hs (λ (e : Effect). sentTo a (e .sent) ≡ report (clockOf bytes h) n (sampleGiven n r) ∷ []) r lent h (z .accepted)
+      (λ _. sent-of-reading (after bytes h) a j (at-end-small bytes a h c) hj (storedGiven (sensorOf (after bytes h .sheet) j) r) (on bytes a h c)
       (subst (λ sheet. j < sheet .count) (sym (sheet-is bytes h)) hs) (strategy-held bytes a h c j hs ∙ st)
       ∙ ap₂ (λ t sheet. report t (sensorOf sheet j) (sampleGiven (sensorOf sheet j) r) ∷ []) (clock-is bytes h) (sheet-is bytes h))
-      (λ k _ e. absurd (true≢false (sym e))) z
+      (λ e. absurd (true≢false (sym (z .newer) ∙ e)))
 
-  one-line : (h : List Call) (lent : List ℕ) → connectedAtEnd bytes a h ≡ true → returnedZero bytes h (callOf (Reading j r) lent) ≡ true → strategyOf bytes a j h ≡ Auto
+  one-line : (h : List Call) (lent : List ℕ) → connectedAtEnd bytes a h ≡ true → Newer bytes j r lent h → strategyOf bytes a j h ≡ Auto
       → linesOf bytes a (callOf (Reading j r) lent ∷ h) ≡ linesOf bytes a h ++ (reportGiven bytes j r h ∷ [])
   one-line h lent c z st = more-lines bytes a (callOf (Reading j r) lent) h (no-connect bytes a (callOf (Reading j r) lent) h refl)
       ∙ ap (λ l. linesOf bytes a h ++ l) (ap (linesTo a) (sent-packets bytes a h (callOf (Reading j r) lent)) ∙ (lines-packed a (step (after bytes h) (callOf (Reading j r) lent) .sent) ∙ ap (map line) (given-sent h lent c z st)))

@@ -35,7 +35,7 @@ use Rattle.machine.specs.Tells.{showsClock, clockIn, lineClock, ClockSho
 use Rattle.machine.proofs.TestLaws.{and-true, cond-either, fitted}
 use Rattle.machine.proofs.PlacesLaws.{each-append, each-gather, each-one, each-map, each-of, each-weaker}
 use Rattle.machine.proofs.RangeLaws.{range-out}
-use Rattle.machine.proofs.StepLaws.{by-cases, accepted, by-asking}
+use Rattle.machine.proofs.StepLaws.{by-cases, accepted, by-superseding, by-asking}
 use Rattle.machine.proofs.KeptInRange.{after-in-range}
 use Rattle.machine.proofs.Sent.{sent-well-formed}
 use Rattle.machine.proofs.ListLaws.{clock-is, sent-packets}
@@ -144,7 +144,7 @@ module _ (s : State) (fits : s .clock ≤ 9999999999999) where
   perform-timed (Disconnect c) d = tt
   perform-timed (Tick t) d = let q = and-true (leb (s .clock) t) (inTime t) (fitted (leb (s .clock) t && inTime t) 8 0 (omega arith) d .0) in
       visit-timed (s .sheet) (withClock s t) (leb-true t 9999999999999 (q .1)) _
-  perform-timed (Reading j r) d = visit-timed (s .sheet) (withReading s j _) fits _
+  perform-timed (Reading j r) d = by-superseding (λ (w : Work). AllTimed (s .clock) (w .sent)) (s .sheet) s j r (λ _. visit-timed (s .sheet) (withReading s j _) fits _) (λ _. tt)
   perform-timed (Log level logger said) d = entries-timed (s .sheet) s fits level logger said
   perform-timed (Line c said) d = by-asking (λ (w : Work). AllTimed (s .clock) (w .sent)) s c said d tt (λ r m k. answer-timed (s .sheet) s fits c m r)
 

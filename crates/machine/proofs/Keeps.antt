@@ -15,17 +15,17 @@ use Rattle.machine.specs.declared.State.{State}
 use Rattle.machine.specs.declared.Request.{Request}
 use Rattle.machine.specs.declared.Request.the-variants.{ClientList, Halt, Help, LogLevel, Restart, SensorList, SensorSampling, SensorValue, VersionList, Watchdog}
 use Rattle.machine.specs.declared.Cause.the-variants.{Tick as Ticked, Reading as Read}
-use Rattle.machine.specs.Sheet.{sensorOf, notOnSheet, graphic, zeroByte, textOk, textFits, titlesNone, titlesOk}
+use Rattle.machine.specs.Sheet.{sensorOf, graphic, zeroByte, textOk, textFits, titlesNone, titlesOk}
 use Rattle.machine.specs.State.{connected, startLevel, clientAt, blankClient, withClock, withReading}
 use Rattle.machine.specs.Range.{clientOk, noClients, isBlank, inRange}
 use Rattle.machine.specs.Report.{Work}
 use Rattle.machine.specs.Requests.{argument, levelOf, levelAsked, listed, strategyAsked, sampling, answer}
 use Rattle.machine.specs.Declined.{Action, Connect, Disconnect, Tick, Reading, Log, Line, Call, addressFits, tickFits, samplingDeclined, argumentsDeclined, actionDeclined}
-use Rattle.machine.specs.Machine.{Effect, sampleGiven, perform, step}
+use Rattle.machine.specs.Machine.{Effect, storedGiven, perform, step}
 use Rattle.machine.proofs.TestLaws.{and-true, and-in, or-true, passed, fitted, cond-cases}
 use Rattle.machine.proofs.SampleRange.{given-fits}
 use Rattle.machine.proofs.RangeLaws.{InRange, range-out, range-of, sensors-of}
-use Rattle.machine.proofs.StepLaws.{by-cases, accepted, client-fits, by-asking}
+use Rattle.machine.proofs.StepLaws.{by-cases, accepted, client-fits, reading-fits, by-superseding, by-asking}
 use Rattle.machine.proofs.SamplingLaws.{listed-below, setting-suits}
 use Rattle.machine.proofs.StateRange.{clock-kept, level-kept, emptied-kept, reading-kept, client-kept, visit-kept, sampled-kept}
 
@@ -100,9 +100,10 @@ perform-kept s r t (Tick n) e =
     let a = and-true (leb (s .clock) n) (inTime n) (fitted (leb (s .clock) n && inTime n) 8 0 (omega arith) e .0) in
     visit-kept (withClock s n) (clock-kept s r t n (leb-true (s .clock) n (a .0)) (leb-true n 9999999999999 (a .1))) t Ticked
 perform-kept s r t (Reading j g) e =
-    let a = passed (notOnSheet (s .sheet) j) 9 _ (omega arith) e in
+    let a = reading-fits s j g e in
     let n = sensorOf (s .sheet) j in
-    visit-kept (withReading s j (sampleGiven n g)) (reading-kept s r t j (sampleGiven n g) (leb-false (s .sheet .count) j (a .0)) (given-fits n g)) t (Read j)
+    by-superseding (λ (w : Work). InRange (w .next)) (s .sheet) s j g
+    (λ _. visit-kept (withReading s j (storedGiven n g)) (reading-kept s r t j (storedGiven n g) (a .on-sheet) (given-fits n g) (a .not-ahead)) t (Read j)) (λ _. r)
 perform-kept s r t (Log level logger said) e = r
 perform-kept s r t (Line c line) e = by-asking (λ (w : Work). InRange (w .next)) s c line e r (λ q m k. answer-kept s r t c m (k .there) q (k .arguments))
 

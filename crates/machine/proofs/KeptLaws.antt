@@ -11,7 +11,6 @@ use Rattle.output.specs.Text.{text, same}
 use Rattle.output.specs.Read.{inTime}
 use Rattle.message.specs.Message.{Message}
 use Rattle.message.specs.Delivery.{to}
-use Rattle.value.specs.declared.Reading.{Reading as Given}
 use Rattle.machine.specs.declared.Sheet.{Sheet}
 use Rattle.machine.specs.declared.Strategy.{Strategy}
 use Rattle.machine.specs.declared.Subscription.{Subscription}
@@ -27,15 +26,15 @@ use Rattle.machine.specs.Range.{isNone}
 use Rattle.machine.specs.Messages.{reportOf, samplingReply}
 use Rattle.machine.specs.Report.{Work, visit, dueAt, reported}
 use Rattle.machine.specs.Requests.{argument, listed, firstOf, strategyAsked, sampled, sampledPairs, sampledSends, sampling, answer, sendsOnly}
-use Rattle.machine.specs.Declined.{Action, Connect, Disconnect, Tick, Reading, Log, Line, tickFits, actionDeclined, argumentsDeclined, samplingDeclined}
-use Rattle.machine.specs.Machine.{perform, sampleGiven}
+use Rattle.machine.specs.Declined.{Arrival, Action, Connect, Disconnect, Tick, Reading, Log, Line, tickFits, actionDeclined, argumentsDeclined, samplingDeclined}
+use Rattle.machine.specs.Machine.{perform, readingStored, storedGiven}
 use Rattle.machine.specs.Reader.{View, news, SetTo, viewAfter, viewOf, standing}
 use Rattle.machine.specs.TwoDevices.{isConnect}
 use Rattle.machine.proofs.TestLaws.{cond-cases, and-true, fitted, eqb-sym}
 use Rattle.machine.proofs.StateLaws.{pair-visited, pair-sampled, none-connected, other-client, still-connected, other-pair}
 use Rattle.machine.proofs.SheetLaws.{places-below}
 use Rattle.machine.proofs.RangeLaws.{InRange}
-use Rattle.machine.proofs.StepLaws.{nameFor, Asking, by-asking, by-sampling}
+use Rattle.machine.proofs.StepLaws.{by-superseding, nameFor, Asking, by-asking, by-sampling}
 use Rattle.machine.proofs.HeardLaws.{heard, heard-none, heard-more, quiet-heard, Readable, told-now, visit-heard, listed-heard}
 use Rattle.machine.proofs.SamplingLaws.{listed-some, listed-known}
 use Rattle.machine.proofs.QuietLaws.{connect-sends-quiet, entries-quiet, answer-quiet}
@@ -168,11 +167,11 @@ module _ (s : State) (r : InRange s) (a j : ℕ) (ha : a < 8) (hj : j < 32) wher
       (λ r q k on. let l = other-left c m r q on in
       record { before = l .0; heard-is = l .1 ∙ sym (quiet-heard (s .sheet) a j _ _ (answer-quiet (s .sheet) s c r m (k .request .named) q)) }) r
 
-  reading-kept : (k : ℕ) (g : Given) → connected s a ≡ true → Kept (s .sheet) s (visit (s .sheet) (withReading s k (sampleGiven (sensorOf (s .sheet) k) g)) (Read k)) a j
+  reading-kept : (k : ℕ) (g : Arrival) → connected s a ≡ true → Kept (s .sheet) s (readingStored (s .sheet) s k g) a j
   unfolding withReading
   reading-kept k g on =
-      let q = visit-kept (s .sheet) (withReading s k (sampleGiven (sensorOf (s .sheet) k) g))
-      (report-told (withReading s k (sampleGiven (sensorOf (s .sheet) k) g)) (r .sensors-in) (reportable-reading s r k (sampleGiven (sensorOf (s .sheet) k) g) (given-fits (sensorOf (s .sheet) k) g))) a j ha hj (Read k) on in
+      let q = visit-kept (s .sheet) (withReading s k (storedGiven (sensorOf (s .sheet) k) g))
+      (report-told (withReading s k (storedGiven (sensorOf (s .sheet) k) g)) (r .sensors-in) (reportable-reading s r k (storedGiven (sensorOf (s .sheet) k) g) (given-fits (sensorOf (s .sheet) k) g))) a j ha hj (Read k) on in
       record { before = on; heard-is = q .heard-is }
 
   tick-kept : (t : ℕ) → tickFits s t ≡ true → connected s a ≡ true → Kept (s .sheet) s (visit (s .sheet) (withClock s t) Ticked) a j
@@ -191,7 +190,8 @@ module _ (s : State) (r : InRange s) (a j : ℕ) (ha : a < 8) (hj : j < 32) wher
   perform-kept (Disconnect c) d n on = let e = still-connected s a ha c on in
       record { before = sym (other-client s a ha c blankClient e) ∙ on; heard-is = ap (viewOf (sensorOf (s .sheet) j)) (other-pair s a j ha hj c blankClient e) ∙ sym (heard-none (s .sheet) a j _) }
   perform-kept (Tick t) d n on = tick-kept t (fitted (tickFits s t) 8 0 (omega arith) d .0) on
-  perform-kept (Reading k g) d n on = reading-kept k g on
+  perform-kept (Reading k g) d n on = by-superseding (λ (w : Work). connected (w .next) a ≡ true → Kept (s .sheet) s w a j) (s .sheet) s k g
+      (λ _ on. reading-kept k g on) (λ _ on. record { before = on; heard-is = sym (heard-none (s .sheet) a j _) }) on
   perform-kept (Log level logger said) d n on = record { before = on; heard-is = sym (quiet-heard (s .sheet) a j _ _ (entries-quiet (s .sheet) s level logger said)) }
   perform-kept (Line c line) d n on = by-asking (λ (w : Work). connected (w .next) a ≡ true → Kept (s .sheet) s w a j) s c line d
       (λ on. record { before = on; heard-is = sym (heard-none (s .sheet) a j _) }) (answer-kept c line) on

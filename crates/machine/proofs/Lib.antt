@@ -40,6 +40,7 @@ pub mod HeardLaws
 pub mod FileLaws
 pub mod AnsweredLaws
 pub mod NextLaws
+pub mod SupersedingLaws
 pub mod KeptLaws
 pub mod GrantedLaws
 pub mod ListLaws
@@ -65,4 +66,5 @@ pub mod Others
 pub mod Connectable
 pub mod StartsAtWarn
 pub mod SeveralNames
+pub mod LateReadings
 pub mod Edges

@@ -4,34 +4,34 @@ use native.Mathlib.Omega.{arith}
 use mathlib.Core.Path.{_≡_, refl, ap, sym, _∙_, subst}
 use mathlib.Core.Bool.{Bool, true, false, cond, _&&_, _||_, true≢false}
 use mathlib.Core.List.{List, [], _∷_, _++_, map}
-use mathlib.Core.Option.{Option, some}
+use mathlib.Core.Option.{none}
 use lib.Dec.{eqb, ltb}
-use lib.ListN.{getD}
 use borrow.Author.Tests.{eqb-true, lt-ltb}
 use Rattle.message.specs.Message.{Message}
 use Rattle.message.specs.Delivery.{Delivery, packet}
-use Rattle.value.specs.declared.Reading.{Reading as Given-reading}
-use Rattle.value.specs.Reading.{fresh as freshSample}
 use Rattle.machine.specs.declared.State.{State}
 use Rattle.machine.specs.declared.Stored.{Stored}
 use Rattle.machine.specs.Places.{isZero}
 use Rattle.machine.specs.Sheet.{sensorOf}
-use Rattle.machine.specs.State.{present, storedOf, noStored, connected, pairOf, noSubscription, withClient, freshReadings}
+use Rattle.machine.specs.State.{storedOf, supersedes, noStored, connected, pairOf, noSubscription, freshReadings}
 use Rattle.machine.specs.Opening.{opened}
-use Rattle.machine.specs.Declined.{Action, Connect, Disconnect, Tick, Reading, Log, Line, Call, actionDeclined, declined}
-use Rattle.machine.specs.Machine.{Effect, perform, step, sampleGiven}
+use Rattle.machine.specs.Report.{Work}
+use Rattle.machine.specs.Requests.{sendsOnly}
+use Rattle.machine.specs.Declined.{Arrival, Action, Reading, Call, callOf, actionDeclined, declined}
+use Rattle.machine.specs.Machine.{Effect, done, readingStored, perform, step}
 use Rattle.machine.specs.Reader.{View, viewBy, noView, viewOf, standing}
-use Rattle.machine.specs.TwoDevices.{after, sheetOf, returnedZero, packetsOf, connects, isConnect, isDisconnect, endsAll, connectedAtEnd, sentTo, messagesOf, readingBy, lastReading, sampleFrom, clockOf, clockBy}
+use Rattle.machine.specs.TwoDevices.{after, sheetOf, returnedZero, packetsOf, connects, isConnect, isDisconnect, endsAll, connectedAtEnd, sentTo, messagesOf, superseding, readingBy, lastReading, clockOf, clockBy}
 use Rattle.machine.proofs.TestLaws.{cond-true, eqb-sym}
 use Rattle.machine.proofs.PlacesLaws.{getD-tabulate}
-use Rattle.machine.proofs.StateLaws.{none-connected, stored-after, pair-of-client}
-use Rattle.machine.proofs.StepLaws.{by-cases, accepted, client-fits, connect-only}
+use Rattle.machine.proofs.StateLaws.{none-connected, pair-of-client}
+use Rattle.machine.proofs.StepLaws.{by-cases, accepted, client-fits, by-superseding, connect-only}
 use Rattle.machine.proofs.RangeLaws.{range-out}
 use Rattle.machine.proofs.QuietLaws.{connect-sends-quiet, refusal-quiet}
 use Rattle.machine.proofs.HeardLaws.{heard, view-append, quiet-heard}
 use Rattle.machine.proofs.KeptLaws.{perform-kept}
 use Rattle.machine.proofs.AnsweredLaws.{packets-are}
-use Rattle.machine.proofs.NextLaws.{perform-sheet, perform-clock, perform-connected, line-keeps, endsConnections}
+use Rattle.machine.proofs.NextLaws.{perform-sheet, perform-clock, perform-connected, endsConnections}
+use Rattle.machine.proofs.SupersedingLaws.{StoredBy, supersedes-is, perform-stored}
 use Rattle.machine.proofs.GrantedLaws.{ends-is}
 use Rattle.machine.proofs.Sent.{sent-short}
 use Rattle.machine.proofs.OpenedRange.{opened-either}
@@ -53,39 +53,34 @@ module _ (bytes : List ℕ) where
   clock-is (call ∷ h) = by-cases (λ (e : Effect). e .next .clock ≡ cond (isZero (e .number)) (clockBy (call .action) (clockOf bytes h)) (clockOf bytes h)) (after bytes h) call
       (λ _. perform-clock (after bytes h) (call .action) ∙ ap (clockBy (call .action)) (clock-is h)) (λ n _. clock-is h)
 
--- the present reading after a call
-perform-reading : (s : State) (j : ℕ) → j < 32 → (action : Action) (o : Option Given-reading) → present s j ≡ sampleFrom (sensorOf (s .sheet) j) o
-    → present (perform (s .sheet) s action .next) j ≡ sampleFrom (sensorOf (s .sheet) j) (readingBy j action o)
-unfolding perform withClient
-perform-reading s j hj (Connect c address) o h = h
-perform-reading s j hj (Disconnect c) o h = h
-perform-reading s j hj (Tick t) o h = h
-perform-reading s j hj (Reading k r) o h = ap (λ (x : Stored). x .sample) (stored-after s k j (sampleGiven (sensorOf (s .sheet) k) r) hj) ∙ (ap (λ b. cond b y (storedOf s j) .sample) (eqb-sym j k) ∙ go (eqb k j) refl)
-  where
-    y : Stored
-    y = record { sample = sampleGiven (sensorOf (s .sheet) k) r; time = s .clock }
-
-    go : (b : Bool) → eqb k j ≡ b → cond b y (storedOf s j) .sample ≡ sampleFrom (sensorOf (s .sheet) j) (cond b (some r) o)
-    go true e = ap (λ i. sampleGiven (sensorOf (s .sheet) i) r) (eqb-true k j e)
-    go false e = h
-perform-reading s j hj (Log level logger said) o h = h
-perform-reading s j hj (Line c line) o h = ap (λ (l : List Stored). getD l j noStored .sample) (line-keeps s c line .0) ∙ h
-
 module _ (bytes : List ℕ) (j : ℕ) (hj : j < 32) (hs : j < sheetOf bytes .count) where
-  opened-reading : present (opened bytes .state) j ≡ freshSample (sensorOf (sheetOf bytes) j .kind)
+  opened-stored : StoredBy (sensorOf (sheetOf bytes) j) (storedOf (opened bytes .state) j) none
   unfolding freshReadings
-  opened-reading = opened-either (λ s. j < s .sheet .count → present s j ≡ freshSample (sensorOf (s .sheet) j .kind)) bytes
-      (λ sheet ok l. ap (λ (x : Stored). x .sample) (getD-tabulate _ 32 j noStored hj) ∙ ap (λ (x : Stored). x .sample) (cond-true (ltb j (sheet .count)) _ noStored (lt-ltb j (sheet .count) l)))
+  opened-stored = opened-either (λ s. j < s .sheet .count → StoredBy (sensorOf (s .sheet) j) (storedOf s j) none) bytes
+      (λ sheet ok l. let e = getD-tabulate _ 32 j noStored hj ∙ cond-true (ltb j (sheet .count)) _ noStored (lt-ltb j (sheet .count) l) in
+      record { sample-is = ap (λ (x : Stored). x .sample) e; time-is = ap (λ (x : Stored). x .time) e; known = ap (λ (x : Stored). eqb (x .sample .kind) 0) e })
       (λ l. absurd (omega arith)) hs
 
-  pub reading-is : (h : List Call) → present (after bytes h) j ≡ sampleFrom (sensorOf (sheetOf bytes) j) (lastReading bytes j h)
+  -- what is stored of a sensor is the last reading that superseded the one before it
+  pub stored-is : (h : List Call) → StoredBy (sensorOf (sheetOf bytes) j) (storedOf (after bytes h) j) (lastReading bytes j h)
   unfolding after lastReading
-  reading-is [] = opened-reading
-  reading-is (call ∷ h) = by-cases (λ (e : Effect). present (e .next) j ≡ sampleFrom (sensorOf (sheetOf bytes) j) (cond (isZero (e .number)) (readingBy j (call .action) (lastReading bytes j h)) (lastReading bytes j h))) (after bytes h) call
-      (λ _. subst (λ sheet. present (perform (after bytes h .sheet) (after bytes h) (call .action) .next) j ≡ sampleFrom (sensorOf sheet j) (readingBy j (call .action) (lastReading bytes j h))) (sheet-is bytes h)
-      (perform-reading (after bytes h) j hj (call .action) (lastReading bytes j h)
-      (subst (λ sheet. present (after bytes h) j ≡ sampleFrom (sensorOf sheet j) (lastReading bytes j h)) (sym (sheet-is bytes h)) (reading-is h))))
-      (λ n _. reading-is h)
+  stored-is [] = opened-stored
+  stored-is (call ∷ h) = by-cases (λ (e : Effect). StoredBy (sensorOf (sheetOf bytes) j) (storedOf (e .next) j) (cond (isZero (e .number)) (readingBy j (call .action) (lastReading bytes j h)) (lastReading bytes j h))) (after bytes h) call
+      (λ z. subst (λ sheet. StoredBy (sensorOf sheet j) (storedOf (perform (after bytes h .sheet) (after bytes h) (call .action) .next) j) (readingBy j (call .action) (lastReading bytes j h))) (sheet-is bytes h)
+      (perform-stored (after bytes h) j hj (call .action) (accepted (after bytes h) call z .fits) (lastReading bytes j h)
+      (subst (λ sheet. StoredBy (sensorOf sheet j) (storedOf (after bytes h) j) (lastReading bytes j h)) (sym (sheet-is bytes h)) (stored-is h))))
+      (λ n _. stored-is h)
+
+  -- a reading that returned 0 supersedes what the list says is stored, or is older
+  pub by-newer : (P : Effect → Type 0) (r : Arrival) (lent : List ℕ) (h : List Call) → returnedZero bytes h (callOf (Reading j r) lent) ≡ true
+      → (superseding (r .time) (lastReading bytes j h) ≡ true → P (done (readingStored (after bytes h .sheet) (after bytes h) j r)))
+      → (superseding (r .time) (lastReading bytes j h) ≡ false → P (done (sendsOnly (after bytes h) []))) → P (step (after bytes h) (callOf (Reading j r) lent))
+  by-newer P r lent h z newer older = by-cases (λ (e : Effect). isZero (e .number) ≡ true → P e) (after bytes h) (callOf (Reading j r) lent)
+      (λ _ _. by-superseding (λ (w : Work). P (done w)) (after bytes h .sheet) (after bytes h) j r (λ e. newer (sym same ∙ e)) (λ e. older (sym same ∙ e)))
+      (λ n _ e. absurd (true≢false (sym e))) z
+    where
+      same : supersedes (r .time) (storedOf (after bytes h) j) ≡ superseding (r .time) (lastReading bytes j h)
+      same = supersedes-is (sensorOf (sheetOf bytes) j) (storedOf (after bytes h) j) (lastReading bytes j h) (r .time) (stored-is h)
 
 -- Connection.
 

@@ -9,13 +9,14 @@ use Rattle.value.specs.declared.Sampled.{Sampled}
 use Rattle.value.specs.declared.Sampled.the-variants.{As, Unfit}
 use Rattle.value.specs.Reading.{sampleOf}
 use Rattle.value.specs.Answer.{sampledNumber}
+use Rattle.machine.specs.declared.Sensor.{Sensor}
 use Rattle.machine.specs.declared.Sheet.{Sheet}
 use Rattle.machine.specs.declared.State.{State}
 use Rattle.machine.specs.Sheet.{sensorOf, notOnSheet}
 use Rattle.machine.specs.State.{connected}
 use Rattle.machine.specs.Range.{inRange}
 use Rattle.machine.specs.Requests.{asked}
-use Rattle.machine.specs.Declined.{Action, Connect, Disconnect, Tick, Reading, Log, Line, Call, clientDeclined, addressFits, tickFits, entryFits, lineDeclined, actionDeclined, declined}
+use Rattle.machine.specs.Declined.{Arrival, Action, Connect, Disconnect, Tick, Reading, Log, Line, Call, clientDeclined, addressFits, tickFits, entryFits, lineDeclined, readingDeclined, actionDeclined, declined}
 use Rattle.machine.specs.Machine.{Effect, step}
 use Rattle.machine.proofs.TestLaws.{cond-either}
 use Rattle.machine.proofs.StepLaws.{by-cases}
@@ -38,12 +39,17 @@ sampled-not : (a : Sampled) → NotOne (sampledNumber a)
 sampled-not (As x) = not-one 0 refl
 sampled-not Unfit = not-one 10 refl
 
+reading-not : (n : Sensor) (clock : ℕ) (r : Arrival) → NotOne (readingDeclined n clock r)
+unfolding readingDeclined
+reading-not n clock r = cond-either NotOne (eqb (sampledNumber (sampleOf (n .kind) (n .«option_count») (r .reading))) 0) _ _
+    (cond-either NotOne (ltb clock (r .time)) 26 0 (not-one 26 refl) (not-one 0 refl)) (sampled-not (sampleOf (n .kind) (n .«option_count») (r .reading)))
+
 action-not : (sheet : Sheet) (s : State) (d : Action) → NotOne (actionDeclined sheet s d)
 unfolding actionDeclined
 action-not sheet s (Connect c address) = client-not (connected s c) c (cond (addressFits address) 0 7) (cond-either NotOne (addressFits address) 0 7 (not-one 0 refl) (not-one 7 refl))
 action-not sheet s (Disconnect c) = client-not (not (connected s c)) c 0 (not-one 0 refl)
 action-not sheet s (Tick t) = cond-either NotOne (tickFits s t) 0 8 (not-one 0 refl) (not-one 8 refl)
-action-not sheet s (Reading j g) = cond-either NotOne (notOnSheet sheet j) 9 _ (not-one 9 refl) (sampled-not (sampleOf (sensorOf sheet j .kind) (sensorOf sheet j .«option_count») g))
+action-not sheet s (Reading j g) = cond-either NotOne (notOnSheet sheet j) 9 _ (not-one 9 refl) (reading-not (sensorOf sheet j) (s .clock) g)
 action-not sheet s (Log level logger said) = cond-either NotOne (entryFits level logger said) 0 11 (not-one 0 refl) (not-one 11 refl)
 action-not sheet s (Line c line) = client-not (not (connected s c)) c (lineDeclined sheet (asked line)) (λ e. let h = line-number sheet (asked line) (λ z. omega (arith, e, z)) in omega (arith, e, h))
 

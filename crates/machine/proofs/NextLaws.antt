@@ -18,7 +18,7 @@ use Rattle.machine.specs.Machine.{perform, lineWork}
 use Rattle.machine.specs.TwoDevices.{isConnect, isDisconnect, clockBy}
 use Rattle.machine.proofs.TestLaws.{cond-cases, cond-either}
 use Rattle.machine.proofs.StateLaws.{client-connected, none-connected}
-use Rattle.machine.proofs.StepLaws.{nameFor}
+use Rattle.machine.proofs.StepLaws.{nameFor, by-superseding}
 use Rattle.machine.proofs.AnsweredLaws.{asksFor}
 
 -- what is said of the state after a request: of the same state, of another log level, of one without clients; after a query, after a sampling
@@ -60,7 +60,7 @@ unfolding perform withClient withReading
 perform-sheet s (Connect c address) = refl
 perform-sheet s (Disconnect c) = refl
 perform-sheet s (Tick t) = refl
-perform-sheet s (Reading j r) = refl
+perform-sheet s (Reading j r) = by-superseding (λ (w : Work). w .next .sheet ≡ s .sheet) (s .sheet) s j r (λ _. refl) (λ _. refl)
 perform-sheet s (Log level logger said) = refl
 perform-sheet s (Line c line) = line-next (λ n. n .sheet ≡ s .sheet) s c (asked line) refl
     (λ r m e. answer-next (λ r n. n .sheet ≡ s .sheet) s c m (λ r e. refl) (λ l. refl) (λ b l. refl) (λ b l. refl) (λ e. refl) (λ e. refl) r)
@@ -75,7 +75,7 @@ unfolding perform withClient withReading
 perform-clock s (Connect c address) = refl
 perform-clock s (Disconnect c) = refl
 perform-clock s (Tick t) = refl
-perform-clock s (Reading j r) = refl
+perform-clock s (Reading j r) = by-superseding (λ (w : Work). w .next .clock ≡ s .clock) (s .sheet) s j r (λ _. refl) (λ _. refl)
 perform-clock s (Log level logger said) = refl
 perform-clock s (Line c line) = line-keeps s c line .1
 
@@ -111,7 +111,7 @@ module _ (s : State) (a : ℕ) (ha : a < 8) where
       or-none true = refl
       or-none false = refl
   perform-connected (Tick t) = refl
-  perform-connected (Reading j r) = refl
+  perform-connected (Reading j r) = by-superseding (λ (w : Work). connected (w .next) a ≡ connected s a) (s .sheet) s j r (λ _. refl) (λ _. refl)
   perform-connected (Log level logger said) = refl
   perform-connected (Line c line) = go (asked line)
     where

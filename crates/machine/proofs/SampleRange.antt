@@ -6,7 +6,6 @@ use mathlib.Core.Bool.{Bool, true, false, cond, _&&_}
 use lib.Dec.{eqb, leb, ltb}
 use borrow.Author.Tests.{eqb-true, lt-ltb}
 use Rattle.value.specs.declared.Limits.{Limits}
-use Rattle.value.specs.declared.Reading.{Reading as Given}
 use Rattle.value.specs.declared.Sample.{Sample}
 use Rattle.value.specs.declared.Sampled.{Sampled}
 use Rattle.value.specs.declared.Sampled.the-variants.{As, Unfit}
@@ -21,6 +20,7 @@ use Rattle.machine.specs.State.{storedOf, present, withClock, withReadin
 use Rattle.machine.specs.Range.{sampleOk}
 use Rattle.machine.specs.Messages.{statusFor}
 use Rattle.machine.specs.Report.{isValid}
+use Rattle.machine.specs.Declined.{Arrival}
 use Rattle.machine.specs.Machine.{sampleIn, sampleGiven}
 use Rattle.machine.specs.Reader.{validStatus}
 use Rattle.machine.proofs.TestLaws.{and-true}
@@ -99,12 +99,12 @@ valid-is n x = go (eqb (x .kind) 0) (eqb (x .kind) 1) (eqb (x .kind) 2) (eqb (x 
 -- States.
 
 -- what a sensor's reading becomes
-pub given-fits : (n : Sensor) (g : Given) → sampleOk n (sampleGiven n g) ≡ true
+pub given-fits : (n : Sensor) (g : Arrival) → sampleOk n (sampleGiven n g) ≡ true
 unfolding sampleGiven
-given-fits n g = go (sampleOf (n .kind) (n .«option_count») g) refl
+given-fits n g = go (sampleOf (n .kind) (n .«option_count») (g .reading)) refl
   where
-    go : (a : Sampled) → sampleOf (n .kind) (n .«option_count») g ≡ a → sampleOk n (sampleIn (n .kind) a) ≡ true
-    go (As x) e = sample-fits (n .kind) (n .«option_count») g x e
+    go : (a : Sampled) → sampleOf (n .kind) (n .«option_count») (g .reading) ≡ a → sampleOk n (sampleIn (n .kind) a) ≡ true
+    go (As x) e = sample-fits (n .kind) (n .«option_count») (g .reading) x e
     go Unfit e = fresh-fits (n .kind) (n .«option_count»)
 
 -- the clock and the readings of a state can be reported
@@ -122,7 +122,7 @@ module _ (s : State) (r : InRange s) where
   pub reportable-tick : (t : ℕ) → t ≤ 9999999999999 → Reportable (withClock s t)
   reportable-tick t h = record { clock-fits = h; present-fits = reportable .present-fits }
 
-  pub reportable-reading : (j : ℕ) (x : Sample) → sampleOk (sensorOf (s .sheet) j) x ≡ true → Reportable (withReading s j x)
+  pub reportable-reading : (j : ℕ) (x : Stored) → sampleOk (sensorOf (s .sheet) j) (x .sample) ≡ true → Reportable (withReading s j x)
   unfolding withReading
   reportable-reading j x ok = record {
     clock-fits = r .clock-in;
@@ -131,6 +131,6 @@ module _ (s : State) (r : InRange s) where
   }
     where
       go : (i : ℕ) → i < s .sheet .count → (b : Bool) → eqb i j ≡ b
-          → sampleOk (sensorOf (s .sheet) i) (cond b (record { sample = x; time = s .clock }) (storedOf s i) .sample) ≡ true
-      go i l true e = subst (λ i. sampleOk (sensorOf (s .sheet) i) x ≡ true) (sym (eqb-true i j e)) ok
+          → sampleOk (sensorOf (s .sheet) i) (cond b x (storedOf s i) .sample) ≡ true
+      go i l true e = subst (λ i. sampleOk (sensorOf (s .sheet) i) (x .sample) ≡ true) (sym (eqb-true i j e)) ok
       go i l false e = reportable .present-fits i l

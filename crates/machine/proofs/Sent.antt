@@ -14,7 +14,7 @@ use Rattle.message.specs.Delivery.{Delivery, packet, Short}
 use Rattle.line.specs.Line.{message, parse, WellFormed}
 use Rattle.line.proofs.ParsedHead.{parsed-head}
 use Rattle.line.proofs.ReadBack.{read-back}
-use Rattle.value.specs.declared.Sample.{Sample}
+use Rattle.machine.specs.declared.Stored.{Stored}
 use Rattle.machine.specs.declared.State.{State}
 use Rattle.machine.specs.declared.Cause.{Cause}
 use Rattle.machine.specs.declared.Cause.the-variants.{Tick as Ticked, Reading as Read}
@@ -26,14 +26,14 @@ use Rattle.machine.specs.Messages.{clientConnected, logEntry, toAll}
 use Rattle.machine.specs.Report.{dueAt, pairSends, visit, Work}
 use Rattle.machine.specs.Requests.{Asked, Nothing, NotMessage, Reply, Unknown, Asks, asked}
 use Rattle.machine.specs.Declined.{Action, Connect, Disconnect, Tick, Reading, Log, Line, Call, clientDeclined, addressFits, tickFits, entryFits, entryByte, lineDeclined, actionDeclined, declined, lineRefusal, refusal}
-use Rattle.machine.specs.Machine.{Effect, sampleGiven, connectSends, entries, perform, step}
+use Rattle.machine.specs.Machine.{Effect, storedGiven, connectSends, entries, perform, step}
 use Rattle.machine.specs.Claims.{Fits, SentReadsBack, SentToClients}
 use Rattle.machine.proofs.TestLaws.{and-true, fitted}
 use Rattle.machine.proofs.PlacesLaws.{each-gather, each-one, each-weaker, gather-length}
 use Rattle.machine.proofs.StateLaws.{due-below}
 use Rattle.machine.proofs.SheetLaws.{Sensors}
 use Rattle.machine.proofs.RangeLaws.{InRange, range-out, sensors-of}
-use Rattle.machine.proofs.StepLaws.{by-cases, accepted, declined-in-range, client-fits, asks-is, unknown-is, by-asking}
+use Rattle.machine.proofs.StepLaws.{by-cases, accepted, declined-in-range, client-fits, by-superseding, asks-is, unknown-is, by-asking}
 use Rattle.machine.proofs.SampleRange.{given-fits, Reportable, reportable-tick, reportable-reading}
 use Rattle.machine.proofs.LineLengths.{Sound}
 use Rattle.machine.proofs.DeliveryLengths.{Served, served, length-line, Sendable, sendable, nothing-sent, one-sent, one-length, where-length, served-where}
@@ -95,7 +95,7 @@ module _ (s : State) (g : InRange s) where
       let a = fitted (leb (s .clock) t && inTime t) 8 0 (omega arith) h in
       visit-sent (withClock s t) Ticked (sensors-of s g) (reportable-tick s g t (leb-true t 9999999999999 (and-true (leb (s .clock) t) (inTime t) (a .0) .1)))
 
-  reading-sent : (j : ℕ) (x : Sample) → sampleOk (sensorOf (s .sheet) j) x ≡ true → Sendable (visit (s .sheet) (withReading s j x) (Read j) .sent)
+  reading-sent : (j : ℕ) (x : Stored) → sampleOk (sensorOf (s .sheet) j) (x .sample) ≡ true → Sendable (visit (s .sheet) (withReading s j x) (Read j) .sent)
   unfolding withReading
   reading-sent j x h = visit-sent (withReading s j x) (Read j) (sensors-of s g) (reportable-reading s g j x h)
 
@@ -119,7 +119,7 @@ module _ (s : State) (g : InRange s) where
   perform-sent (Connect c address) h = connect-sent c address h
   perform-sent (Disconnect c) h = nothing-sent
   perform-sent (Tick t) h = tick-sent t h
-  perform-sent (Reading j r) h = reading-sent j (sampleGiven (sensorOf (s .sheet) j) r) (given-fits (sensorOf (s .sheet) j) r)
+  perform-sent (Reading j r) h = by-superseding (λ (w : Work). Sendable (w .sent)) (s .sheet) s j r (λ _. reading-sent j (storedGiven (sensorOf (s .sheet) j) r) (given-fits (sensorOf (s .sheet) j) r)) (λ _. nothing-sent)
   perform-sent (Log level logger said) h = log-sent level logger said h
   perform-sent (Line c line) h = by-asking (λ (w : Work). Sendable (w .sent)) s c line h nothing-sent
       (λ q m k. answer-sent s g c (k .client) m (parsed-head line m (k .request .parsed)) q (k .arguments))

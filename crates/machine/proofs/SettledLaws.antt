@@ -5,7 +5,6 @@ use mathlib.Core.Bool.{Bool, true, false, cond, _&&_, true≢false}
 use mathlib.Core.List.{List, [], _∷_}
 use lib.Dec.{eqb}
 use borrow.Author.Tests.{lt-ltb}
-use Rattle.value.specs.declared.Sample.{Sample}
 use Rattle.machine.specs.declared.Sheet.{Sheet}
 use Rattle.machine.specs.declared.Stored.{Stored}
 use Rattle.machine.specs.declared.Strategy.{Strategy}
@@ -15,15 +14,15 @@ use Rattle.machine.specs.declared.Cause.the-variants.{Tick as Ticked, Re
 use Rattle.machine.specs.Places.{has}
 use Rattle.machine.specs.Sheet.{sensorOf}
 use Rattle.machine.specs.State.{present, storedOf, connected, pairOf, withClock, withReading, withPairs, withClient, clientAt, blankClient}
-use Rattle.machine.specs.Report.{visit, due, dueAt, reported}
+use Rattle.machine.specs.Report.{Work, visit, due, dueAt, reported}
 use Rattle.machine.specs.Requests.{asked, listed, strategyAsked, sampledPairs}
 use Rattle.machine.specs.Declined.{Action, Connect, Disconnect, Tick, Reading, Log, Line, Call, declined}
-use Rattle.machine.specs.Machine.{Effect, perform, lineWork, step, sampleGiven}
+use Rattle.machine.specs.Machine.{Effect, perform, lineWork, step, storedGiven}
 use Rattle.machine.specs.TwoDevices.{after, sheetOf, isConnect}
 use Rattle.machine.proofs.TestLaws.{cond-either, cond-false, eqb-sym}
 use Rattle.machine.proofs.StateLaws.{none-connected, pair-visited, pair-sampled, stored-after, still-connected, other-pair}
 use Rattle.machine.proofs.RangeLaws.{range-out}
-use Rattle.machine.proofs.StepLaws.{by-cases, accepted}
+use Rattle.machine.proofs.StepLaws.{by-cases, accepted, by-superseding}
 use Rattle.machine.proofs.KeptLaws.{perform-kept}
 use Rattle.machine.proofs.NextLaws.{answer-next, line-next}
 use Rattle.machine.proofs.ListLaws.{opened-alone, sheet-is, connect-pair}
@@ -41,7 +40,7 @@ module _ (a j : ℕ) (ha : a < 8) (hj : j < 32) where
       (good-visit (sensorOf (s .sheet) j) t (present s j) false (s .clock) (pairOf s a j) (g .was-reported) (λ _. g .known))
 
   -- a visit after a reading, of this sensor or of another
-  reading-good : (s : State) (k : ℕ) (x : Sample) → j < s .sheet .count → GoodIn (s .sheet) s → connected s a ≡ true → GoodIn (s .sheet) (visit (s .sheet) (withReading s k x) (Read k) .next)
+  reading-good : (s : State) (k : ℕ) (x : Stored) → j < s .sheet .count → GoodIn (s .sheet) s → connected s a ≡ true → GoodIn (s .sheet) (visit (s .sheet) (withReading s k x) (Read k) .next)
   unfolding dueAt withReading
   reading-good s k x hs g on = subst (λ p. Good (sensorOf (s .sheet) j) (s .clock) (present (withReading s k x) j) p)
       (sym (pair-visited (withReading s k x) a j ha hj (s .sheet) (Read k) ∙ rw (on, lt-ltb j (s .sheet .count) hs))) (go (eqb k j) refl)
@@ -77,7 +76,7 @@ module _ (a j : ℕ) (ha : a < 8) (hj : j < 32) where
   perform-good s hs g on (Connect c address) n after-on = other-good s g c (clientAt address) n
   perform-good s hs g on (Disconnect c) n after-on = other-good s g c blankClient (still-connected s a ha c after-on)
   perform-good s hs g on (Tick t) n after-on = tick-good s t hs g on
-  perform-good s hs g on (Reading k x) n after-on = reading-good s k (sampleGiven (sensorOf (s .sheet) k) x) hs g on
+  perform-good s hs g on (Reading k x) n after-on = by-superseding (λ (w : Work). GoodIn (s .sheet) (w .next)) (s .sheet) s k x (λ _. reading-good s k (storedGiven (sensorOf (s .sheet) k) x) hs g on) (λ _. g)
   perform-good s hs g on (Log level logger said) n after-on = g
   perform-good s hs g on (Line c line) n after-on = line-good s c line g after-on
 

@@ -25,14 +25,14 @@ use Rattle.machine.specs.Messages.{reportOf}
 use Rattle.machine.specs.Report.{Work, dueAt, pairSends, visit}
 use Rattle.machine.specs.Requests.{listed, strategyAsked, sampledSends, sampling, answer}
 use Rattle.machine.specs.Declined.{Action, Connect, Disconnect, Tick, Reading, Log, Line, Call, tickFits, samplingDeclined, argumentsDeclined, actionDeclined}
-use Rattle.machine.specs.Machine.{Effect, sampleGiven, perform, step}
+use Rattle.machine.specs.Machine.{Effect, storedGiven, perform, step}
 use Rattle.machine.specs.Reader.{News, Reported, SetTo, news, toldOf}
 use Rattle.machine.proofs.TestLaws.{and-true, cond-cases, cond-true, fitted}
 use Rattle.machine.proofs.PlacesLaws.{each-gather, each-one, each-weaker, each-map}
 use Rattle.machine.proofs.StateLaws.{due-below}
 use Rattle.machine.proofs.SheetLaws.{places-below}
 use Rattle.machine.proofs.RangeLaws.{InRange, range-out}
-use Rattle.machine.proofs.StepLaws.{by-cases, accepted, Asking, by-asking, by-sampling}
+use Rattle.machine.proofs.StepLaws.{by-cases, accepted, by-superseding, Asking, by-asking, by-sampling}
 use Rattle.machine.proofs.SamplingLaws.{listed-known}
 use Rattle.machine.proofs.QuietLaws.{Quiet, connect-sends-quiet, entries-quiet, answer-quiet, refusal-quiet}
 use Rattle.machine.proofs.SampleRange.{Reportable, reportable, reportable-tick, reportable-reading, given-fits}
@@ -96,8 +96,10 @@ module _ (P : List Delivery → Type 0) (s : State) (r : InRange s) where
   action-shape (Disconnect c) d quiet reports set = quiet [] tt
   action-shape (Tick t) d quiet reports set = let q = and-true (leb (s .clock) t) (inTime t) (fitted (leb (s .clock) t && inTime t) 8 0 (omega arith) d .0) in
       reports _ (visit-reports (withClock s t) (r .sensors-in) (reportable-tick s r t (leb-true t 9999999999999 (q .1))) Ticked)
-  action-shape (Reading j g) d quiet reports set = let x = sampleGiven (sensorOf (s .sheet) j) g in
-      reports _ (visit-reports (withReading s j x) (r .sensors-in) (reportable-reading s r j x (given-fits (sensorOf (s .sheet) j) g)) (Read j))
+  action-shape (Reading j g) d quiet reports set = let x = storedGiven (sensorOf (s .sheet) j) g in
+      by-superseding (Shaped (s .sheet) P) (s .sheet) s j g
+      (λ _ quiet reports set. reports _ (visit-reports (withReading s j x) (r .sensors-in) (reportable-reading s r j x (given-fits (sensorOf (s .sheet) j) g)) (Read j)))
+      (λ _ quiet reports set. quiet [] tt) quiet reports set
   action-shape (Log level logger said) d quiet reports set = quiet _ (entries-quiet (s .sheet) s level logger said)
   action-shape (Line c line) d quiet reports set = by-asking (Shaped (s .sheet) P) s c line d (λ quiet reports set. quiet [] tt) (request-shape c line) quiet reports set
 

@@ -19,13 +19,13 @@ use Rattle.machine.specs.declared.Request.the-variants.{ClientList, Halt
 use Rattle.machine.specs.declared.Cause.the-variants.{Tick as Ticked, Reading as Read}
 use Rattle.machine.specs.Places.{has, Each}
 use Rattle.machine.specs.Sheet.{sensorOf}
-use Rattle.machine.specs.State.{present, connected, pairOf, withClock, withReading, withLevel, withPairs, withClient, emptied, clientAt, blankClient}
+use Rattle.machine.specs.State.{present, storedOf, supersedes, connected, pairOf, withClock, withReading, withLevel, withPairs, withClient, emptied, clientAt, blankClient}
 use Rattle.machine.specs.Range.{inRange}
 use Rattle.machine.specs.Messages
 use Rattle.machine.specs.Report.{Work}
 use Rattle.machine.specs.Requests.{Asked, Nothing, NotMessage, Reply, Unknown, Asks, asked, argument, addresses, levelAsked, listed, firstOf, strategyAsked, sampled, sampledPairs, sampledSends, sampling, sendsOnly, endConnections, answer}
 use Rattle.machine.specs.Declined.{Action, Connect, Disconnect, Tick, Reading, Log, Line, callOf, tickFits, clientDeclined, addressFits, countFits, samplingDeclined, argumentsDeclined, lineDeclined, actionDeclined, declined, refusal}
-use Rattle.machine.specs.Machine.{Effect, sampleGiven, connectSends, lineWork, perform, outcome, step}
+use Rattle.machine.specs.Machine.{Effect, storedGiven, readingStored, readingWork, connectSends, lineWork, perform, outcome, step}
 use Rattle.machine.specs.Others.{isShared, ofOthers, AlikeFor}
 use Rattle.machine.proofs.TestLaws.{passed}
 use Rattle.machine.proofs.PlacesLaws.{each-append, each-map, each-of}
@@ -116,18 +116,18 @@ module _ (a : ℕ) (ha : a < 8) (s : State) (r : InRange s) (l : ℕ) (ks : List
   answer-alike VersionList m e d = record { states = state-alike; told = refl }
   answer-alike Watchdog m e d = record { states = state-alike; told = refl }
 
+  nothing-alike : WorkAlike a (sendsOnly s []) (sendsOnly t [])
+  nothing-alike = record { states = state-alike; told = refl }
+
   line-alike : (line : List ℕ) → actionDeclined (s .sheet) s (Line a line) ≡ 0 → WorkAlike a (lineWork (s .sheet) s a (asked line)) (lineWork (s .sheet) t a (asked line))
   unfolding actionDeclined lineDeclined lineWork
   line-alike line d = go (asked line) refl (client-fits (not (connected s a)) a (lineDeclined (s .sheet) (asked line)) d .1 .1)
     where
-      nothing : WorkAlike a (sendsOnly s []) (sendsOnly t [])
-      nothing = record { states = state-alike; told = refl }
-
       go : (w : Asked) → asked line ≡ w → lineDeclined (s .sheet) w ≡ 0 → WorkAlike a (lineWork (s .sheet) s a w) (lineWork (s .sheet) t a w)
-      go Nothing e z = nothing
-      go NotMessage e z = nothing
-      go Reply e z = nothing
-      go (Unknown m) e z = nothing
+      go Nothing e z = nothing-alike
+      go NotMessage e z = nothing-alike
+      go Reply e z = nothing-alike
+      go (Unknown m) e z = nothing-alike
       go (Asks q m) e z = answer-alike q m (asks-is line q m e .named) (passed (not (countFits q (length (m .args)))) 15 (argumentsDeclined (s .sheet) q m) (omega arith) z .1)
 
   -- Calls.
@@ -148,11 +148,15 @@ module _ (a : ℕ) (ha : a < 8) (s : State) (r : InRange s) (l : ℕ) (ks : List
       others n = where-aside a (λ k. connected n k && not (eqb k c)) (Messages.clientConnected address) refl
 
   perform-alike : (action : Action) → isShared a action ≡ true → actionDeclined (s .sheet) s action ≡ 0 → WorkAlike a (perform (s .sheet) s action) (perform (s .sheet) t action)
-  unfolding perform withReading
+  unfolding perform readingWork withReading
   perform-alike (Connect c address) e d = record { states = client-alike c (clientAt address); told = connect-told c address }
   perform-alike (Disconnect c) e d = record { states = client-alike c blankClient; told = refl }
   perform-alike (Tick n) e d = visit-alike a ha (withClock s n) l ks ps (record { client = g .client; pair = g .pair }) Ticked
-  perform-alike (Reading j x) e d = visit-alike a ha (withReading s j (sampleGiven (sensorOf (s .sheet) j) x)) l ks ps (record { client = g .client; pair = g .pair }) (Read j)
+  perform-alike (Reading j x) e d = go (supersedes (x .time) (storedOf s j))
+    where
+      go : (b : Bool) → WorkAlike a (cond b (readingStored (s .sheet) s j x) (sendsOnly s [])) (cond b (readingStored (s .sheet) t j x) (sendsOnly t []))
+      go true = visit-alike a ha (withReading s j (storedGiven (sensorOf (s .sheet) j) x)) l ks ps (record { client = g .client; pair = g .pair }) (Read j)
+      go false = nothing-alike
   perform-alike (Log level logger said) e d = absurd (true≢false (sym e))
   perform-alike (Line c line) e d = subst (λ c. actionDeclined (s .sheet) s (Line c line) ≡ 0 → WorkAlike a (lineWork (s .sheet) s c (asked line)) (lineWork (s .sheet) t c (asked line)))
       (sym (eqb-true c a e)) (line-alike line) d

@@ -13,7 +13,7 @@ use Rattle.machine.specs.declared.Subscription.{Subscription}
 use Rattle.machine.specs.declared.Sheet.{Sheet}
 use Rattle.machine.specs.declared.State.{State}
 use Rattle.machine.specs.declared.Cause.{Cause}
-use Rattle.value.specs.declared.Sample.{Sample}
+use Rattle.machine.specs.declared.Stored.{Stored}
 use Rattle.machine.specs.Places.{tabulate, has}
 use Rattle.machine.specs.State.{clientOf, connected, pairOf, present, storedOf, noSubscription, noStored, noClient, blankClient, withClient, withReading}
 use Rattle.machine.specs.Report.{dueAt, pairAfter, reported}
@@ -52,7 +52,7 @@ pub client-after : (s : State) (c a : ℕ) (k : Client) → a < 8 → clientOf (
 unfolding withClient
 client-after s c a k ha = getD-tabulate _ 8 a noClient ha
 
-pub stored-after : (s : State) (j i : ℕ) (x : Sample) → i < 32 → storedOf (withReading s j x) i ≡ cond (eqb i j) (record { sample = x; time = s .clock }) (storedOf s i)
+pub stored-after : (s : State) (j i : ℕ) (x : Stored) → i < 32 → storedOf (withReading s j x) i ≡ cond (eqb i j) x (storedOf s i)
 unfolding withReading
 stored-after s j i x hi = getD-tabulate _ 32 i noStored hi
 

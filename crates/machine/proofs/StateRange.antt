@@ -7,7 +7,6 @@ use mathlib.Core.List.{List}
 use lib.Dec.{eqb, leb, ltb}
 use lib.ListN.{getD}
 use borrow.Author.Tests.{leb-true, le-leb, ltb-true, lt-ltb, eqb-true}
-use Rattle.value.specs.declared.Sample.{Sample}
 use Rattle.machine.specs.declared.Sensor.{Sensor}
 use Rattle.machine.specs.declared.Strategy.{Strategy}
 use Rattle.machine.specs.declared.Subscription.{Subscription}
@@ -87,9 +86,9 @@ module _ (s : State) (r : InRange s) (titled : titlesOk (s .sheet) ≡ true) whe
   }
 
   -- sensor j is given the reading x
-  pub reading-kept : (j : ℕ) (x : Sample) → j < s .sheet .count → sampleOk (sensorOf (s .sheet) j) x ≡ true → InRange (withReading s j x)
+  pub reading-kept : (j : ℕ) (x : Stored) → j < s .sheet .count → sampleOk (sensorOf (s .sheet) j) (x .sample) ≡ true → x .time ≤ s .clock → InRange (withReading s j x)
   unfolding storedOkAt storedOk pairOkAt withReading
-  reading-kept j x h f = record {
+  reading-kept j x h f t = record {
     titles-in = ap (λ b. b || isBlank (withReading s j x)) titled;
     sensors-in = r .sensors-in;
     clock-in = r .clock-in;
@@ -102,11 +101,11 @@ module _ (s : State) (r : InRange s) (titled : titlesOk (s .sheet) ≡ true) whe
       At : ℕ → Stored → Type 0
       At i y = cond (ltb i (s .sheet .count)) (storedOk (s .clock) (sensorOf (s .sheet) i) y) (storedNone y) ≡ true
 
-      given : At j (record { sample = x; time = s .clock })
-      given = cond-true (ltb j (s .sheet .count)) _ _ (lt-ltb j (s .sheet .count) h) ∙ and-in (sampleOk (sensorOf (s .sheet) j) x) (leb (s .clock) (s .clock)) f (le-leb (s .clock) (s .clock) (omega arith))
+      given : At j x
+      given = cond-true (ltb j (s .sheet .count)) _ _ (lt-ltb j (s .sheet .count) h) ∙ and-in (sampleOk (sensorOf (s .sheet) j) (x .sample)) (leb (x .time) (s .clock)) f (le-leb (x .time) (s .clock) t)
 
-      go : (i : ℕ) (b : Bool) → eqb i j ≡ b → At i (storedOf s i) → At i (cond b (record { sample = x; time = s .clock }) (storedOf s i))
-      go i true e q = subst (λ i. At i (record { sample = x; time = s .clock })) (sym (eqb-true i j e)) given
+      go : (i : ℕ) (b : Bool) → eqb i j ≡ b → At i (storedOf s i) → At i (cond b x (storedOf s i))
+      go i true e q = subst (λ i. At i x) (sym (eqb-true i j e)) given
       go i false e q = q
 
   -- client c is now k

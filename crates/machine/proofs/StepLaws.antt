@@ -1,4 +1,4 @@
--- A call is carried out or declined; what is known of one that is carried out; what a line asks.
+-- A call is carried out or declined; what is known of one that is carried out; a reading that supersedes, and an older one; what a line asks.
 use Prim.Native.Nat.{ℕ, zero, suc, _≤_, _<_}
 use Prim.Native.Char.{code}
 use native.Mathlib.Omega.{arith}
@@ -8,21 +8,25 @@ use mathlib.Core.List.{List, []}
 use mathlib.Core.Option.{Option, none, some}
 use lib.Dec.{eqb, ltb}
 use lib.ListN.{length}
-use borrow.Author.Tests.{ltb-false, le-ltb, eqb-true, not-false}
+use borrow.Author.Tests.{leb-false, ltb-false, le-ltb, eqb-true, not-false}
 use Rattle.output.specs.Text.{text, same}
 use Rattle.output.proofs.TextLaws.{same-true}
 use Rattle.message.specs.Message.{Message}
 use Rattle.line.specs.Line.{Parse, malformed, message, kindByte, parse, blankLine}
 use Rattle.line.proofs.ParsedHead.{parsed-head, blank-parse}
+use Rattle.value.specs.Reading.{sampleOf}
+use Rattle.value.specs.Answer.{sampledNumber}
+use Rattle.machine.specs.declared.Sheet.{Sheet}
 use Rattle.machine.specs.declared.State.{State}
 use Rattle.machine.specs.declared.Request.{Request}
 use Rattle.machine.specs.declared.Request.the-variants.{ClientList, Halt, Help, LogLevel, Restart, SensorList, SensorSampling, SensorValue, VersionList, Watchdog}
+use Rattle.machine.specs.Sheet.{sensorOf, notOnSheet}
 use Rattle.machine.specs.Range.{inRange}
 use Rattle.machine.specs.Requests.{Asked, Nothing, NotMessage, Reply, Unknown, Asks, asked, askedBy, askedFor, requestNamed, sendsOnly, answer}
-use Rattle.machine.specs.Declined.{Call, clientDeclined, actionDeclined, declined, Action, Connect, Disconnect, Tick, Reading, Log, Line, countFits, argumentsDeclined, lineDeclined}
-use Rattle.machine.specs.Machine.{Effect, done, left, outcome, perform, step, lineWork}
-use Rattle.machine.proofs.TestLaws.{passed, or-true}
-use Rattle.machine.specs.State.{connected}
+use Rattle.machine.specs.Declined.{Arrival, Call, rowsBehind, clientDeclined, readingDeclined, actionDeclined, declined, Action, Connect, Disconnect, Tick, Reading, Log, Line, countFits, argumentsDeclined, lineDeclined}
+use Rattle.machine.specs.Machine.{Effect, done, left, outcome, readingStored, readingWork, perform, step, lineWork}
+use Rattle.machine.proofs.TestLaws.{passed, or-true, not-none}
+use Rattle.machine.specs.State.{storedOf, supersedes, connected}
 use Rattle.machine.specs.Report.{Work}
 use Rattle.machine.specs.TwoDevices.{isConnect}
 
@@ -86,6 +90,33 @@ client-fits refused c rest e =
     let a = passed (ltb 7 c) 5 _ (omega arith) e in
     let b = passed refused 6 rest (omega arith) (a .1) in
     (omega (arith, ltb-false 7 c (a .0)), (b .0, b .1))
+
+pub rows-behind : (before rest : ℕ) → rowsBehind before rest ≡ 0 → (before ≡ 0) × (rest ≡ 0)
+rows-behind zero rest e = (refl, e)
+rows-behind (suc n) rest e = absurd (omega (arith, rw (not-none n) at e))
+
+-- a reading that nothing declines: its sensor is on the sheet, it fits the type, and its time is not above the clock
+pub record ReadingFits (s : State) (j : ℕ) (r : Arrival) : Type 0 where
+  pub on-sheet : j < s .sheet .count
+  pub fit : sampledNumber (sampleOf (sensorOf (s .sheet) j .kind) (sensorOf (s .sheet) j .«option_count») (r .reading)) ≡ 0
+  pub not-ahead : r .time ≤ s .clock
+
+pub reading-fits : (s : State) (j : ℕ) (r : Arrival) → actionDeclined (s .sheet) s (Reading j r) ≡ 0 → ReadingFits s j r
+unfolding actionDeclined readingDeclined
+reading-fits s j r e =
+    let a = passed (notOnSheet (s .sheet) j) 9 _ (omega arith) e in
+    let b = rows-behind (sampledNumber (sampleOf (sensorOf (s .sheet) j .kind) (sensorOf (s .sheet) j .«option_count») (r .reading))) _ (a .1) in
+    record { on-sheet = leb-false (s .sheet .count) j (a .0); fit = b .0; not-ahead = ltb-false (s .clock) (r .time) (passed (ltb (s .clock) (r .time)) 26 0 (omega arith) (b .1) .0) }
+
+-- it supersedes the stored one, or is older
+pub by-superseding : (P : Work → Type 0) (sheet : Sheet) (s : State) (j : ℕ) (r : Arrival) → (supersedes (r .time) (storedOf s j) ≡ true → P (readingStored sheet s j r))
+    → (supersedes (r .time) (storedOf s j) ≡ false → P (sendsOnly s [])) → P (perform sheet s (Reading j r))
+unfolding perform readingWork
+by-superseding P sheet s j r newer older = go (supersedes (r .time) (storedOf s j)) refl
+  where
+    go : (b : Bool) → supersedes (r .time) (storedOf s j) ≡ b → P (cond b (readingStored sheet s j r) (sendsOnly s []))
+    go true e = newer e
+    go false e = older e
 
 -- the name of a request in the table
 abbrev pub nameFor : Request → List ℕ

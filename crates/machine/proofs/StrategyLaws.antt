@@ -19,17 +19,18 @@ use Rattle.machine.specs.declared.Request.{Request}
 use Rattle.machine.specs.declared.Request.the-variants.{SensorSampling}
 use Rattle.machine.specs.declared.Cause.{Cause}
 use Rattle.machine.specs.Places.{isZero, has}
+use Rattle.machine.specs.Sheet.{sensorOf}
 use Rattle.machine.specs.State.{connected, pairOf, present, noSubscription, blankClient, clientAt, withClock, withReading}
 use Rattle.machine.specs.Range.{isNone}
-use Rattle.machine.specs.Report.{visit, dueAt, reported}
+use Rattle.machine.specs.Report.{Work, visit, dueAt, reported}
 use Rattle.machine.specs.Requests.{Asked, Nothing, NotMessage, Reply, Unknown, Asks, asked, listed, strategyAsked, sampled, sampledPairs, answer}
 use Rattle.machine.specs.Declined.{Action, Connect, Disconnect, Tick, Reading, Log, Line, Call, callOf, actionDeclined, lineDeclined, countFits, declined}
-use Rattle.machine.specs.Machine.{Effect, perform, lineWork, step, sampleGiven}
+use Rattle.machine.specs.Machine.{Effect, perform, lineWork, step, storedGiven}
 use Rattle.machine.specs.TwoDevices.{after, connects, isConnect, names, strategyIn, strategyAfter, strategyOf}
 use Rattle.machine.proofs.TestLaws.{cond-ap, cond-same, passed, eqb-sym}
 use Rattle.machine.proofs.StateLaws.{none-connected, pair-visited, pair-sampled, still-connected, other-pair}
 use Rattle.machine.proofs.RangeLaws.{range-out}
-use Rattle.machine.proofs.StepLaws.{by-cases, accepted, client-fits, asks-is, nameFor}
+use Rattle.machine.proofs.StepLaws.{by-cases, accepted, client-fits, by-superseding, asks-is, nameFor}
 use Rattle.machine.proofs.KeptLaws.{perform-kept}
 use Rattle.machine.proofs.AnsweredLaws.{asksFor, sampling-ok}
 use Rattle.machine.proofs.GrantedLaws.{granted-is}
@@ -117,7 +118,7 @@ module _ (s : State) (a j : ℕ) (ha : a < 8) (hj : j < 32) where
   perform-strategy (Connect c address) d n on = ap (λ (p : Subscription). p .strategy) (other-pair s a j ha hj c (clientAt address) n)
   perform-strategy (Disconnect c) d n on = ap (λ (p : Subscription). p .strategy) (other-pair s a j ha hj c blankClient (still-connected s a ha c on))
   perform-strategy (Tick t) d n on = visit-strategy s a j ha hj (withClock s t) _
-  perform-strategy (Reading k r) d n on = visit-strategy s a j ha hj (withReading s k (sampleGiven _ r)) _
+  perform-strategy (Reading k r) d n on = by-superseding (λ (w : Work). strategyNow a j (w .next) ≡ strategyNow a j s) (s .sheet) s k r (λ _. visit-strategy s a j ha hj (withReading s k (storedGiven (sensorOf (s .sheet) k) r)) _) (λ _. refl)
   perform-strategy (Log level logger said) d n on = refl
   perform-strategy (Line c line) d n on = line-strategy s a j ha hj c line d on
 

@@ -1,5 +1,5 @@
 -- Tests and choices.
-use Prim.Native.Nat.{ℕ, _<_}
+use Prim.Native.Nat.{ℕ, suc, _<_}
 use native.Mathlib.Omega.{arith}
 use mathlib.Core.Path.{_≡_, refl, ap, sym}
 use mathlib.Core.Bool.{Bool, true, false, cond, not, _&&_, _||_, true≢false}
@@ -89,6 +89,10 @@ passed false n m h e = (refl, e)
 pub fitted : (b : Bool) (n m : ℕ) → 0 < n → cond b m n ≡ 0 → (b ≡ true) × (m ≡ 0)
 fitted true n m h e = (refl, e)
 fitted false n m h e = absurd (omega arith)
+
+-- a number behind 0 is not 0
+pub not-none : (n : ℕ) → eqb (suc n) 0 ≡ false
+not-none n = ne-eqb (suc n) 0 (λ z. omega arith)
 
 pub eqb-sym : (x y : ℕ) → eqb x y ≡ eqb y x
 eqb-sym x y = go (eqb y x) refl

@@ -14,6 +14,7 @@ use Rattle.value.specs.declared.Parameter.the-variants.{Bad}
 use Rattle.value.specs.declared.Reading.{Reading as Given}
 use Rattle.value.specs.Reading.{sampleOf, isMeasured}
 use Rattle.value.specs.Answer.{sampledNumber, parameterNumber}
+use Rattle.machine.specs.declared.Sensor.{Sensor}
 use Rattle.machine.specs.declared.Sheet.{Sheet}
 use Rattle.machine.specs.declared.State.{State}
 use Rattle.machine.specs.declared.Request.{Request}
@@ -26,12 +27,21 @@ use Rattle.machine.specs.Range.{inRange}
 use Rattle.machine.specs.Requests.{Asked, Nothing, NotMessage, Reply, Unknown, Asks, asked, argument, askedPlaces, requestNamed, found, foundNumber, levelOf, listed, kindAsked, parameterCount, byDifference, isBad, parametersOf, strategyMade, shortestOverLongest}
 use Rattle.machine.specs.Messages.{refusalEntry, refusalReply}
 
+-- a reading as it arrives: what it says, and when it was taken, in milliseconds: document 02, (g), "A reading now brings its own time"
+pub record Arrival : Type 0 where
+  pub reading : Given
+  pub time : ℕ
+
+-- a reading by its parts
+abbrev pub arrival : Given → ℕ → Arrival
+arrival reading time = record { reading = reading; time = time }
+
 -- What is asked of the unit: the calls but opening, with their arguments.
 pub data Action : Type 0 where
   Connect : ℕ → List ℕ → Action  -- client, address text
   Disconnect : ℕ → Action  -- client
   Tick : ℕ → Action  -- milliseconds
-  Reading : ℕ → Given → Action  -- "sensor by place in the sheet, from 0", reading
+  Reading : ℕ → Arrival → Action  -- "sensor by place in the sheet, from 0", reading
   Log : ℕ → List ℕ → List ℕ → Action  -- level, logger, message
   Line : ℕ → List ℕ → Action  -- client, its line without end
 
@@ -44,7 +54,11 @@ pub record Call : Type 0 where
 abbrev pub callOf : Action → List ℕ → Call
 callOf action lent = record { action = action; lent = lent }
 
--- Rows 5 to 11.
+-- rows that are asked behind others: the number of those before, or theirs where none of those declines
+abbrev pub rowsBehind : ℕ → ℕ → ℕ
+rowsBehind before rest = cond (eqb before 0) rest before
+
+-- Rows 5 to 11, and 26.
 
 -- "client above 7", 5; "connect: connected; else: not connected", 6
 unfoldable pub clientDeclined : Bool → ℕ → ℕ → ℕ
@@ -65,6 +79,10 @@ entryByte b = printable b || (eqb b 9 || (eqb b 10 || eqb b 13))
 -- "log level off/all, logger not 1–32 name bytes, message over 256 or outside 0x20–0x7E, 9, 10, 13"
 unfoldable pub entryFits : ℕ → List ℕ → List ℕ → Bool
 entryFits level logger said = (leb 1 level && leb level 6) && (textFits 1 32 nameByte logger && textFits 0 256 entryByte said)
+
+-- "reading unfit for type", 10; document 02, (g): "26 .. when the reading's time is above the clock, tested after 10"
+unfoldable pub readingDeclined : Sensor → ℕ → Arrival → ℕ
+readingDeclined n clock r = rowsBehind (sampledNumber (sampleOf (n .kind) (n .«option_count») (r .reading))) (cond (ltb clock (r .time)) 26 0)
 
 -- Rows 14 to 23.
 
@@ -137,7 +155,7 @@ unfoldable pub actionDeclined : Sheet → State → Action → ℕ
 actionDeclined sheet s (Connect c address) = clientDeclined (connected s c) c (cond (addressFits address) 0 7)
 actionDeclined sheet s (Disconnect c) = clientDeclined (not (connected s c)) c 0
 actionDeclined sheet s (Tick t) = cond (tickFits s t) 0 8
-actionDeclined sheet s (Reading j r) = cond (notOnSheet sheet j) 9 (sampledNumber (sampleOf (sensorOf sheet j .kind) (sensorOf sheet j .«option_count») r))
+actionDeclined sheet s (Reading j r) = cond (notOnSheet sheet j) 9 (readingDeclined (sensorOf sheet j) (s .clock) r)
 actionDeclined sheet s (Log level logger said) = cond (entryFits level logger said) 0 11
 actionDeclined sheet s (Line c line) = clientDeclined (not (connected s c)) c (lineDeclined sheet (asked line))
 
@@ -146,7 +164,7 @@ unfoldable pub declined : Sheet → State → Call → ℕ
 declined sheet s call =
     cond (not (inRange s)) 1 (cond (ltb (length (call .lent)) 65536) 2 (cond (s .halted) 3 (actionDeclined sheet s (call .action))))
 
--- What a refusal sends: nothing below 12; "12 and 13 go to the sender despite the log level"; from 14 on a reply.
+-- What a refusal sends: nothing below 12 and at 26; "12 and 13 go to the sender despite the log level"; from 14 on a reply.
 
 -- by what the line asks
 unfoldable pub lineRefusal : ℕ → ℕ → ℕ → Asked → List Delivery

@@ -10,6 +10,7 @@ pub mod Declined
 pub mod Machine
 pub mod Reader
 pub mod TwoDevices
+pub mod LateReadings
 pub mod Tells
 pub mod Cut
 pub mod Others

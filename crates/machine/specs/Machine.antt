@@ -6,22 +6,22 @@ use lib.Dec.{leb}
 use lib.ListN.{length}
 use Rattle.output.specs.Output.{laid}
 use Rattle.message.specs.Delivery.{Delivery, to, deliveries}
-use Rattle.value.specs.declared.Reading.{Reading as Given}
 use Rattle.value.specs.declared.Sample.{Sample}
 use Rattle.value.specs.declared.Sampled.{Sampled}
 use Rattle.value.specs.declared.Sampled.the-variants.{As, Unfit}
 use Rattle.value.specs.Reading.{sampleOf, fresh}
 use Rattle.machine.specs.declared.Sensor.{Sensor}
 use Rattle.machine.specs.declared.Sheet.{Sheet}
+use Rattle.machine.specs.declared.Stored.{Stored}
 use Rattle.machine.specs.declared.State.{State}
 use Rattle.machine.specs.declared.Answer.{Answer}
 use Rattle.machine.specs.declared.Cause.the-variants.{Tick as Ticked, Reading as Read}
 use Rattle.machine.specs.Sheet.{sensorOf}
-use Rattle.machine.specs.State.{withClock, withReading, withClient, clientAt, blankClient}
+use Rattle.machine.specs.State.{storedOf, withClock, withReading, supersedes, withClient, clientAt, blankClient}
 use Rattle.machine.specs.Messages.{versionConnect, protocolArgs, deviceArgs, clientConnected, logEntry, toAll, toOthers}
 use Rattle.machine.specs.Report.{Work, visit}
 use Rattle.machine.specs.Requests.{Asked, Nothing, NotMessage, Reply, Unknown, Asks, asked, sendsOnly, answer}
-use Rattle.machine.specs.Declined.{Action, Connect, Disconnect, Tick, Reading, Log, Line, Call, declined, refusal}
+use Rattle.machine.specs.Declined.{Arrival, Action, Connect, Disconnect, Tick, Reading, Log, Line, Call, declined, refusal}
 
 -- the sample that a fit reading becomes
 abbrev pub sampleIn : ℕ → Sampled → Sample
@@ -29,8 +29,12 @@ sampleIn t (As x) = x
 sampleIn t Unfit = fresh t
 
 -- the sample that a sensor's reading becomes
-unfoldable pub sampleGiven : Sensor → Given → Sample
-sampleGiven n r = sampleIn (n .kind) (sampleOf (n .kind) (n .«option_count») r)
+unfoldable pub sampleGiven : Sensor → Arrival → Sample
+sampleGiven n r = sampleIn (n .kind) (sampleOf (n .kind) (n .«option_count») (r .reading))
+
+-- what is stored of it: document 02, (g), "A reading now brings its own time"
+abbrev pub storedGiven : Sensor → Arrival → Stored
+storedGiven n r = record { sample = sampleGiven n r; time = r .time }
 
 -- "first the newcomer gets `#version-connect katcp-protocol 5.1-MIB`, then `katcp-device` ..; then the other clients get `#client-connected`"
 unfoldable pub connectSends : Sheet → State → ℕ → List ℕ → List Delivery
@@ -40,6 +44,14 @@ connectSends sheet s c address =
 -- "sent .. to all if its level is at or above the set one": more severe levels have lower numbers
 unfoldable pub entries : State → ℕ → List ℕ → List ℕ → List Delivery
 entries s level logger said = cond (leb level (s .level)) (toAll s (logEntry level (s .clock) logger said)) []
+
+-- a reading that supersedes the stored one: "stores, then visits each client's pair for that sensor"
+abbrev pub readingStored : Sheet → State → ℕ → Arrival → Work
+readingStored sheet s j r = visit sheet (withReading s j (storedGiven (sensorOf sheet j) r)) (Read j)
+
+-- document 02, (g): "An older one is accepted, changes nothing and causes no report, under auto too"
+unfoldable pub readingWork : Sheet → State → ℕ → Arrival → Work
+readingWork sheet s j r = cond (supersedes (r .time) (storedOf s j)) (readingStored sheet s j r) (sendsOnly s [])
 
 -- a line that is not declined
 unfoldable pub lineWork : Sheet → State → ℕ → Asked → Work
@@ -54,7 +66,7 @@ unfoldable pub perform : Sheet → State → Action → Work
 perform sheet s (Connect c address) = record { sent = connectSends sheet s c address; next = withClient s c (clientAt address) }
 perform sheet s (Disconnect c) = record { sent = []; next = withClient s c blankClient }
 perform sheet s (Tick t) = visit sheet (withClock s t) Ticked
-perform sheet s (Reading j r) = visit sheet (withReading s j (sampleGiven (sensorOf sheet j) r)) (Read j)
+perform sheet s (Reading j r) = readingWork sheet s j r
 perform sheet s (Log level logger said) = sendsOnly s (entries s level logger said)
 perform sheet s (Line c line) = lineWork sheet s c (asked line)
 

@@ -1,8 +1,8 @@
 -- Document 01, "Machine": the state, its parts by client and sensor, and how calls write it anew.
 use Prim.Native.Nat.{ℕ, _+_, _*_, _/_, _-_}
-use mathlib.Core.Bool.{Bool, true, false, cond}
+use mathlib.Core.Bool.{Bool, true, false, cond, _||_}
 use mathlib.Core.List.{List, [], _++_}
-use lib.Dec.{eqb, ltb}
+use lib.Dec.{eqb, leb, ltb}
 use lib.ListN.{length, getD, take, replicate}
 use Rattle.value.specs.declared.Sample.{Sample}
 use Rattle.value.specs.Reading.{sample, fresh as freshSample}
@@ -96,9 +96,14 @@ withClient s c k =
 abbrev pub emptied : State → Bool → ℕ → State
 emptied s halted level = record { sheet = s .sheet; clock = s .clock; halted = halted; level = level; readings = s .readings; clients = replicate 8 blankClient; subscriptions = replicate 256 noSubscription }
 
--- a sensor is given a reading, at the clock
-unfoldable pub withReading : State → ℕ → Sample → State
-withReading s j x = withReadings s (tabulate (λ i. cond (eqb i j) (record { sample = x; time = s .clock }) (storedOf s i)) 32)
+-- a sensor is given a reading
+unfoldable pub withReading : State → ℕ → Stored → State
+withReading s j x = withReadings s (tabulate (λ i. cond (eqb i j) x (storedOf s i)) 32)
+
+-- whether a reading of time t supersedes the stored one: document 02, (g), "if its time is equal or later, or if the stored status is unknown",
+-- which kind 0 has and no other
+unfoldable pub supersedes : ℕ → Stored → Bool
+supersedes t old = leb (old .time) t || eqb (old .sample .kind) 0
 
 -- Opening.
 

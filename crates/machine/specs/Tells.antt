@@ -1,5 +1,6 @@
 -- What the file of one archive tells of the sensors: at the end, at every moment before it, and where the file is cut. `a` is the archive's client
--- number, `bytes` the sheet, `h` a list of calls with its latest first, as in TwoDevices.antt; a file is the archive's lines (`linesOf`).
+-- number, `bytes` the sheet, `h` a list of calls with its latest first, as in TwoDevices.antt; a file is the archive's lines (`linesOf`). The readings that it
+-- tells of are those that superseded the one stored before them (document 02, (g)): one that came late and was passed over is in no file and in no bound.
 use Prim.Native.Nat.{ℕ, _+_, _-_, _*_, _≤_, _<_}
 use Prim.Native.Char.{code}
 use mathlib.Core.Path.{_≡_}
@@ -11,7 +12,6 @@ use Rattle.output.specs.Text.{text}
 use Rattle.output.specs.Read.{readTime}
 use Rattle.message.specs.Message.{line}
 use Rattle.line.specs.Line.{Parse, malformed, message, parse}
-use Rattle.value.specs.declared.Reading.{Reading as Given}
 use Rattle.value.specs.declared.Sample.{Sample}
 use Rattle.machine.specs.declared.Sensor.{Sensor}
 use Rattle.machine.specs.declared.Sheet.{Sheet}
@@ -23,10 +23,11 @@ use Rattle.machine.specs.Range.{isNone}
 use Rattle.machine.specs.Messages.{statusFor, report}
 use Rattle.machine.specs.Report.{isValid, apart, width}
 use Rattle.machine.specs.Requests.{argument}
-use Rattle.machine.specs.Declined.{Reading, Call, callOf}
+use Rattle.machine.specs.Declined.{Arrival, Reading, Call, callOf}
 use Rattle.machine.specs.Machine.{sampleGiven}
 use Rattle.machine.specs.Reader.{Told, News, Other, Impossible, Reported, SetTo, news, isNamed, validStatus, View, viewAfter, noView, toldOf}
-use Rattle.machine.specs.TwoDevices.{sheetOf, returnedZero, connects, connectedAtEnd, linesOf, linesTo, packetsOf, withoutEnd, strategyOf, lastReport, lastReading, sampleFrom, clockOf}
+use Rattle.machine.specs.TwoDevices.{sheetOf, connects, connectedAtEnd, linesOf, linesTo, packetsOf, withoutEnd, strategyOf, lastReport, lastReading, sampleFrom, clockOf}
+use Rattle.machine.specs.LateReadings.{Newer}
 
 -- The reader of a file.
 
@@ -169,8 +170,8 @@ KeepsStrategy j st Impossible = Unit
 KeepsStrategy j st (Reported k r) = Unit
 KeepsStrategy j st (SetTo js new) = has j js ≡ true → new ≡ st
 
--- `within`: every valid reading since such a strategy was set lies within its reach of a valid report that is in the file.
--- `peak`: so the highest valid reading is at most the highest valid report and the reach.
+-- `within`: every valid reading that superseded since such a strategy was set lies within its reach of a valid report that is in the file.
+-- `peak`: so the highest of these readings is at most the highest valid report and the reach.
 -- `as-shown`: the file shows the assumption: its lines up to h set this strategy, and those behind name the sensor with no other.
 pub record PeakBounded : Type 0 where
   pub within : (bytes : List ℕ) (a j w : ℕ) (st : Strategy) (later h : List Call) → Under bytes a j st later h → reach (sensorOf (sheetOf bytes) j) st ≡ some w
@@ -194,21 +195,21 @@ ReportsTrue = (bytes : List ℕ) (a : ℕ) (h : List Call) (call : Call)
 -- Auto.
 
 -- the report of sensor j that a reading gives behind the calls h
-abbrev pub reportGiven : List ℕ → ℕ → Given → List Call → List ℕ
+abbrev pub reportGiven : List ℕ → ℕ → Arrival → List Call → List ℕ
 reportGiven bytes j r h = line (report (clockOf bytes h) (sensorOf (sheetOf bytes) j) (sampleGiven (sensorOf (sheetOf bytes) j) r))
 
--- Under auto every accepted reading is a line of the file.
+-- Under auto every reading that superseded is a line of the file.
 -- `own-line`: it is the one line that the reading's call gives the archive, behind those before it.
 -- `in-file`: so it stands there in the file of every later moment of the connection.
 -- `told`: and it tells that reading, at that clock.
 pub record AutoShows : Type 0 where
-  pub own-line : (bytes : List ℕ) (a j : ℕ) → j < sheetOf bytes .count → (r : Given) (lent : List ℕ) (h : List Call)
-      → connectedAtEnd bytes a h ≡ true → returnedZero bytes h (callOf (Reading j r) lent) ≡ true → strategyOf bytes a j h ≡ Auto
+  pub own-line : (bytes : List ℕ) (a j : ℕ) → j < sheetOf bytes .count → (r : Arrival) (lent : List ℕ) (h : List Call)
+      → connectedAtEnd bytes a h ≡ true → Newer bytes j r lent h → strategyOf bytes a j h ≡ Auto
       → linesOf bytes a (callOf (Reading j r) lent ∷ h) ≡ linesOf bytes a h ++ (reportGiven bytes j r h ∷ [])
-  pub in-file : (bytes : List ℕ) (a j : ℕ) → j < sheetOf bytes .count → (r : Given) (lent : List ℕ) (later h : List Call)
-      → Earlier bytes a later (callOf (Reading j r) lent ∷ h) → returnedZero bytes h (callOf (Reading j r) lent) ≡ true → strategyOf bytes a j h ≡ Auto
+  pub in-file : (bytes : List ℕ) (a j : ℕ) → j < sheetOf bytes .count → (r : Arrival) (lent : List ℕ) (later h : List Call)
+      → Earlier bytes a later (callOf (Reading j r) lent ∷ h) → Newer bytes j r lent h → strategyOf bytes a j h ≡ Auto
       → (rest : List (List ℕ)) × (linesOf bytes a (later ++ (callOf (Reading j r) lent ∷ h)) ≡ linesOf bytes a h ++ (reportGiven bytes j r h ∷ rest))
-  pub told : (bytes : List ℕ) (j : ℕ) → j < sheetOf bytes .count → (r : Given) (h : List Call)
+  pub told : (bytes : List ℕ) (j : ℕ) → j < sheetOf bytes .count → (r : Arrival) (h : List Call)
       → lineNews (sheetOf bytes) (reportGiven bytes j r h)
       ≡ Reported j (toldOf (sensorOf (sheetOf bytes) j) (clockOf bytes h) (sampleGiven (sensorOf (sheetOf bytes) j) r))
 

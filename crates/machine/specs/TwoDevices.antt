@@ -12,7 +12,6 @@ use Rattle.output.specs.Text.{text}
 use Rattle.message.specs.Message.{Message}
 use Rattle.message.specs.Delivery.{Delivery, Packet, cut}
 use Rattle.line.specs.Line.{Parse, malformed, message, parse}
-use Rattle.value.specs.declared.Reading.{Reading as Given}
 use Rattle.value.specs.declared.Sample.{Sample}
 use Rattle.value.specs.Reading.{fresh}
 use Rattle.machine.specs.declared.Sensor.{Sensor}
@@ -23,13 +22,13 @@ use Rattle.machine.specs.declared.State.{State}
 use Rattle.machine.specs.declared.Answer.{Answer}
 use Rattle.machine.specs.Places.{any, has, joined, isZero}
 use Rattle.machine.specs.Sheet.{sensorOf}
-use Rattle.machine.specs.State.{present, pairOf}
+use Rattle.machine.specs.State.{storedOf, present, pairOf}
 use Rattle.machine.specs.Range.{isNone}
 use Rattle.machine.specs.Opening.{opened}
 use Rattle.machine.specs.Messages.{statusFor}
 use Rattle.machine.specs.Report.{isValid, apart, width}
 use Rattle.machine.specs.Requests.{listed, strategyAsked}
-use Rattle.machine.specs.Declined.{Action, Connect, Disconnect, Tick, Reading, Log, Line, Call}
+use Rattle.machine.specs.Declined.{Arrival, Action, Connect, Disconnect, Tick, Reading, Log, Line, Call}
 use Rattle.machine.specs.Machine.{step, sampleGiven, answerOf, outputOf}
 use Rattle.machine.specs.Reader.{Told, News, Other, Impossible, Reported, SetTo, reportRead, isNamed, isOk, standing}
 
@@ -195,24 +194,35 @@ unfoldable pub lastReport : Sheet → ℕ → List (List ℕ) → Option Told
 lastReport sheet j [] = none
 lastReport sheet j (l ∷ ls) = later (lastReport sheet j ls) (reportBy sheet j (parse (withoutEnd l)))
 
--- "the last given by a reading call for it that returned 0"
-abbrev pub readingBy : ℕ → Action → Option Given → Option Given
+-- whether a reading of time t supersedes the present one: document 02, (g), "if its time is equal or later, or if the stored status is unknown", as it is
+-- before the first reading, and after none
+abbrev pub superseding : ℕ → Option Arrival → Bool
+superseding t none = true
+superseding t (some r) = leb (r .time) t
+
+-- "the last given by a reading call for it that returned 0", and document 02, (g), "the last that superseded the one stored before it"
+abbrev pub readingBy : ℕ → Action → Option Arrival → Option Arrival
 readingBy j (Connect c address) before = before
 readingBy j (Disconnect c) before = before
 readingBy j (Tick t) before = before
-readingBy j (Reading k r) before = cond (eqb k j) (some r) before
+readingBy j (Reading k r) before = cond (eqb k j && superseding (r .time) before) (some r) before
 readingBy j (Log level logger said) before = before
 readingBy j (Line c line) before = before
 
 -- over the list
-unfoldable pub lastReading : List ℕ → ℕ → List Call → Option Given
+unfoldable pub lastReading : List ℕ → ℕ → List Call → Option Arrival
 lastReading bytes j [] = none
 lastReading bytes j (call ∷ h) = cond (returnedZero bytes h call) (readingBy j (call .action) (lastReading bytes j h)) (lastReading bytes j h)
 
 -- "with the status and value of the section Values, else the fresh one"
-abbrev pub sampleFrom : Sensor → Option Given → Sample
+abbrev pub sampleFrom : Sensor → Option Arrival → Sample
 sampleFrom n none = fresh (n .kind)
 sampleFrom n (some r) = sampleGiven n r
+
+-- document 02, (g), "its own time", else that of the fresh one
+abbrev pub timeFrom : Option Arrival → ℕ
+timeFrom none = 0
+timeFrom (some r) = r .time
 
 -- the clock that a call sets
 abbrev pub clockBy : Action → ℕ → ℕ
@@ -264,6 +274,10 @@ module _ (bytes : List ℕ) (d : Device) where
   abbrev pub reading : ℕ → Sample
   reading j = sampleFrom (sensorOf (sheetOf bytes) j) (lastReading bytes j history)
 
+  -- the time of its present reading
+  abbrev pub readingTime : ℕ → ℕ
+  readingTime j = timeFrom (lastReading bytes j history)
+
   -- the clock
   abbrev pub clock : ℕ
   clock = clockOf bytes history
@@ -310,11 +324,12 @@ TwoDevices = (bytes : List ℕ) (d e : Device) → archiveConnected bytes d ≡ 
     → (messages bytes d ≡ messages bytes e) × ((j : ℕ) → j < sheetOf bytes .count → Shared bytes d e j)
 
 -- "The state a list ends with holds, for the archive and each sensor, that strategy, those parameters, that last report (none if there is none) and that present reading";
--- and its clock is that of the list
+-- the time of that reading too, and its clock is that of the list
 pub record Holds (bytes : List ℕ) (d : Device) (j : ℕ) : Type 0 where
   pub strategy-held : pairOf (final bytes d) (d .archive) j .strategy ≡ strategy bytes d j
   pub report-held : standing (sheetOf bytes) (final bytes d) (d .archive) j .last ≡ report bytes d j
   pub reading-held : present (final bytes d) j ≡ reading bytes d j
+  pub time-held : storedOf (final bytes d) j .time ≡ readingTime bytes d j
   pub clock-held : final bytes d .clock ≡ clock bytes d
 
 -- for every device whose archive is connected at the end

@@ -1,0 +1,119 @@
+-- Document 02, (g): readings by their own time.
+use Prim.Native.Nat.{ℕ, zero, suc, _≤_, _<_}
+use native.Mathlib.Omega.{arith}
+use mathlib.Core.Path.{_≡_, refl, ap, sym, _∙_, subst}
+use mathlib.Core.Bool.{Bool, true, false, cond, not, true≢false}
+use mathlib.Core.List.{List, [], _∷_, map}
+use mathlib.Core.Option.{Option, none, some}
+use lib.Dec.{eqb, ltb}
+use lib.ListN.{length}
+use borrow.Author.Tests.{le-leb, le-ltb}
+use Rattle.message.specs.Delivery.{packet}
+use Rattle.value.specs.declared.Reading.{Reading as Given}
+use Rattle.value.specs.Reading.{sampleOf}
+use Rattle.value.specs.Answer.{sampledNumber}
+use Rattle.machine.specs.declared.State.{State}
+use Rattle.machine.specs.Places.{isZero}
+use Rattle.machine.specs.Sheet.{sensorOf, notOnSheet}
+use Rattle.machine.specs.State.{storedOf}
+use Rattle.machine.specs.Range.{inRange}
+use Rattle.machine.specs.Declined.{Arrival, arrival, Reading, Call, callOf, rowsBehind, readingDeclined, actionDeclined, declined, refusal}
+use Rattle.machine.specs.Machine.{Effect, step, storedGiven}
+use Rattle.machine.specs.TwoDevices.{after, sheetOf, returnedZero, packetsOf, superseding, lastReading, timeFrom, clockOf}
+use Rattle.machine.specs.LateReadings.{Newer, Older, readingStep, LateReadings}
+use Rattle.machine.proofs.TestLaws.{cond-true, not-none, eqb-refl}
+use Rattle.machine.proofs.RangeLaws as range
+use Rattle.machine.proofs.RangeLaws.{range-out}
+use Rattle.machine.proofs.StepLaws.{by-cases, accepted, reading-fits}
+use Rattle.machine.proofs.KeptInRange.{after-in-range}
+use Rattle.machine.proofs.SupersedingLaws.{stored-next}
+use Rattle.machine.proofs.ListLaws.{sheet-is, clock-is, stored-is, by-newer, sent-packets}
+use Rattle.machine.proofs.TellsLaws.{sheet-rules}
+
+-- One call.
+
+number-is : (s : State) (call : Call) → step s call .number ≡ declined (s .sheet) s call
+number-is s call = by-cases (λ (e : Effect). e .number ≡ declined (s .sheet) s call) s call (λ z. sym z) (λ n e. sym e)
+
+-- the last of the rows is asked behind the others
+rows-last : (a b c d : Bool) (n last : ℕ)
+    → cond a 1 (cond b 2 (cond c 3 (cond d 9 (rowsBehind n last)))) ≡ rowsBehind (cond a 1 (cond b 2 (cond c 3 (cond d 9 (rowsBehind n 0))))) last
+rows-last true b c d n last = refl
+rows-last false true c d n last = refl
+rows-last false false true d n last = refl
+rows-last false false false true n last = refl
+rows-last false false false false zero last = refl
+rows-last false false false false (suc n) last = rw (not-none n, not-none n) refl
+
+row-ahead : (s : State) (j : ℕ) (g : Given) (t : ℕ) (lent : List ℕ) → readingStep s j g t lent .number ≡ rowsBehind (readingStep s j g 0 lent .number) (cond (ltb (s .clock) t) 26 0)
+unfolding declined actionDeclined readingDeclined
+row-ahead s j g t lent = number-is s (callOf (Reading j (arrival g t)) lent)
+    ∙ (rows-last (not (inRange s)) (ltb (length lent) 65536) (s .halted) (notOnSheet (s .sheet) j) fit (cond (ltb (s .clock) t) 26 0)
+    ∙ ap (λ n. rowsBehind n (cond (ltb (s .clock) t) 26 0)) (sym (number-is s (callOf (Reading j (arrival g 0)) lent) ∙ at-zero)))
+  where
+    fit : ℕ
+    fit = sampledNumber (sampleOf (sensorOf (s .sheet) j .kind) (sensorOf (s .sheet) j .«option_count») g)
+
+    -- no time 0 is above the clock
+    at-zero : declined (s .sheet) s (callOf (Reading j (arrival g 0)) lent) ≡ cond (not (inRange s)) 1 (cond (ltb (length lent) 65536) 2 (cond (s .halted) 3 (cond (notOnSheet (s .sheet) j) 9 (rowsBehind fit 0))))
+    at-zero = rw (le-ltb (s .clock) 0 (omega arith)) refl
+
+refused-left : (s : State) (j : ℕ) (g : Given) (t : ℕ) (lent : List ℕ) → (readingStep s j g t lent .number ≡ 0 → ⊥)
+    → (readingStep s j g t lent .sent ≡ []) × (readingStep s j g t lent .next ≡ s)
+unfolding refusal
+refused-left s j g t lent = by-cases (λ (e : Effect). (e .number ≡ 0 → ⊥) → (e .sent ≡ []) × (e .next ≡ s)) s (callOf (Reading j (arrival g t)) lent) (λ _ h. absurd (h refl)) (λ n _ h. (refl, refl))
+
+-- Over a list of calls.
+
+module _ (bytes : List ℕ) (j : ℕ) where
+  -- a sensor of the sheet has its place in the arrays
+  place : j < sheetOf bytes .count → j < 32
+  place hs = omega (arith, sheet-rules bytes .count-most)
+
+  -- a reading that returned 0 is of a sensor on the sheet
+  on-sheet : (r : Arrival) (lent : List ℕ) (h : List Call) → returnedZero bytes h (callOf (Reading j r) lent) ≡ true → j < sheetOf bytes .count
+  on-sheet r lent h = by-cases (λ (e : Effect). isZero (e .number) ≡ true → j < sheetOf bytes .count) (after bytes h) (callOf (Reading j r) lent)
+      (λ z _. subst (λ sheet. j < sheet .count) (sheet-is bytes h) (reading-fits (after bytes h) j r (accepted (after bytes h) (callOf (Reading j r) lent) z .fits) .on-sheet))
+      (λ n _ e. absurd (true≢false (sym e)))
+
+  passed-over : (r : Arrival) (lent : List ℕ) (h : List Call) → Older bytes j r lent h
+      → (packetsOf bytes h (callOf (Reading j r) lent) ≡ []) × (after bytes (callOf (Reading j r) lent ∷ h) ≡ after bytes h)
+  unfolding after
+  passed-over r lent h o = (sent-packets bytes 0 h (callOf (Reading j r) lent) ∙ ap (map packet) (left .0), left .1)
+    where
+      hs : j < sheetOf bytes .count
+      hs = on-sheet r lent h (o .accepted)
+
+      left : (step (after bytes h) (callOf (Reading j r) lent) .sent ≡ []) × (step (after bytes h) (callOf (Reading j r) lent) .next ≡ after bytes h)
+      left = by-newer bytes j (place hs) hs (λ (e : Effect). (e .sent ≡ []) × (e .next ≡ after bytes h)) r lent h (o .accepted) (λ e. absurd (true≢false (sym e ∙ o .older))) (λ _. (refl, refl))
+
+  stored : (r : Arrival) (lent : List ℕ) (h : List Call) → Newer bytes j r lent h → storedOf (after bytes (callOf (Reading j r) lent ∷ h)) j ≡ storedGiven (sensorOf (sheetOf bytes) j) r
+  unfolding after
+  stored r lent h o = by-newer bytes j (place hs) hs (λ (e : Effect). storedOf (e .next) j ≡ storedGiven (sensorOf (sheetOf bytes) j) r) r lent h (o .accepted)
+      (λ _. stored-next (after bytes h) j j (place hs) r ∙ (cond-true (eqb j j) _ _ (eqb-refl j) ∙ ap (λ sheet. storedGiven (sensorOf sheet j) r) (sheet-is bytes h)))
+      (λ e. absurd (true≢false (sym (o .newer) ∙ e)))
+    where
+      hs : j < sheetOf bytes .count
+      hs = on-sheet r lent h (o .accepted)
+
+  never-ahead : j < sheetOf bytes .count → (h : List Call) → timeFrom (lastReading bytes j h) ≤ clockOf bytes h
+  never-ahead hs h = rw (← stored-is bytes j (place hs) hs h .time-is, ← clock-is bytes h)
+      (range.stored-is (after bytes h) (range-out (after bytes h) (after-in-range bytes h)) j (subst (λ sheet. j < sheet .count) (sym (sheet-is bytes h)) hs) (place hs) .1)
+
+  at-clock : j < sheetOf bytes .count → (h : List Call) → superseding (clockOf bytes h) (lastReading bytes j h) ≡ true
+  at-clock hs h = go (lastReading bytes j h) (never-ahead hs h)
+    where
+      go : (o : Option Arrival) → timeFrom o ≤ clockOf bytes h → superseding (clockOf bytes h) o ≡ true
+      go none l = refl
+      go (some r) l = le-leb (r .time) (clockOf bytes h) l
+
+-- document 02, (g)
+pub late-readings : LateReadings
+late-readings = record {
+  ahead = row-ahead;
+  left-as-it-was = refused-left;
+  passed-over = λ bytes j r lent h o. passed-over bytes j r lent h o;
+  stored = λ bytes j r lent h o. stored bytes j r lent h o;
+  never-ahead = λ bytes j hs h. never-ahead bytes j hs h;
+  at-clock = λ bytes j hs h. at-clock bytes j hs h;
+}

@@ -1,0 +1,45 @@
+-- Document 02, (g), "Readings that arrive late", of one call and over whole lists of calls.
+use Prim.Native.Nat.{ℕ, _≤_, _<_}
+use mathlib.Core.Path.{_≡_}
+use mathlib.Core.Bool.{true, false, cond}
+use mathlib.Core.List.{List, [], _∷_}
+use lib.Dec.{ltb}
+use Rattle.value.specs.declared.Reading.{Reading as Given}
+use Rattle.machine.specs.declared.State.{State}
+use Rattle.machine.specs.Sheet.{sensorOf}
+use Rattle.machine.specs.State.{storedOf}
+use Rattle.machine.specs.Declined.{Arrival, arrival, Reading, Call, callOf, rowsBehind}
+use Rattle.machine.specs.Machine.{Effect, step, storedGiven}
+use Rattle.machine.specs.TwoDevices.{after, sheetOf, returnedZero, packetsOf, superseding, lastReading, timeFrom, clockOf}
+
+-- a reading of sensor j, behind the calls h, that returned 0 and supersedes the one stored before it
+pub record Newer (bytes : List ℕ) (j : ℕ) (r : Arrival) (lent : List ℕ) (h : List Call) : Type 0 where
+  pub accepted : returnedZero bytes h (callOf (Reading j r) lent) ≡ true
+  pub newer : superseding (r .time) (lastReading bytes j h) ≡ true
+
+-- and one that does not: "An older one is accepted"
+pub record Older (bytes : List ℕ) (j : ℕ) (r : Arrival) (lent : List ℕ) (h : List Call) : Type 0 where
+  pub accepted : returnedZero bytes h (callOf (Reading j r) lent) ≡ true
+  pub older : superseding (r .time) (lastReading bytes j h) ≡ false
+
+-- what a call of a reading comes to in a state, with a time of its own
+abbrev pub readingStep : State → ℕ → Given → ℕ → List ℕ → Effect
+readingStep s j g t lent = step s (callOf (Reading j (arrival g t)) lent)
+
+-- `ahead`: "26 .. when the reading's time is above the clock, tested after 10": behind the rows that decline this reading whatever its time.
+-- `left-as-it-was`: "with state and output left as they were", as at every row of this call.
+-- `passed-over`: "An older one is accepted, changes nothing and causes no report, under auto too": no delivery at all.
+-- `stored`: one that supersedes is stored, with its own time.
+-- `never-ahead`: so the time of the present reading is at most the clock.
+-- `at-clock`: and a reading that brings the clock supersedes any ("the console gives the clock").
+pub record LateReadings : Type 0 where
+  pub ahead : (s : State) (j : ℕ) (g : Given) (t : ℕ) (lent : List ℕ)
+      → readingStep s j g t lent .number ≡ rowsBehind (readingStep s j g 0 lent .number) (cond (ltb (s .clock) t) 26 0)
+  pub left-as-it-was : (s : State) (j : ℕ) (g : Given) (t : ℕ) (lent : List ℕ) → (readingStep s j g t lent .number ≡ 0 → ⊥)
+      → (readingStep s j g t lent .sent ≡ []) × (readingStep s j g t lent .next ≡ s)
+  pub passed-over : (bytes : List ℕ) (j : ℕ) (r : Arrival) (lent : List ℕ) (h : List Call) → Older bytes j r lent h
+      → (packetsOf bytes h (callOf (Reading j r) lent) ≡ []) × (after bytes (callOf (Reading j r) lent ∷ h) ≡ after bytes h)
+  pub stored : (bytes : List ℕ) (j : ℕ) (r : Arrival) (lent : List ℕ) (h : List Call) → Newer bytes j r lent h
+      → storedOf (after bytes (callOf (Reading j r) lent ∷ h)) j ≡ storedGiven (sensorOf (sheetOf bytes) j) r
+  pub never-ahead : (bytes : List ℕ) (j : ℕ) → j < sheetOf bytes .count → (h : List Call) → timeFrom (lastReading bytes j h) ≤ clockOf bytes h
+  pub at-clock : (bytes : List ℕ) (j : ℕ) → j < sheetOf bytes .count → (h : List Call) → superseding (clockOf bytes h) (lastReading bytes j h) ≡ true
