@@ -15,7 +15,8 @@ use Rattle.machine.specs.declared.Cause.{Cause}
 use Rattle.machine.specs.declared.Client.{Client}
 use Rattle.machine.specs.declared.Subscription.{Subscription}
 use Rattle.machine.specs.State.{withClients}
-use Rattle.machine.specs.Report.{Work, visit}
+use Rattle.machine.specs.Report.{Work}
+use Rattle.machine.specs.Requests.{sendsOnly}
 use Rattle.machine.specs.Declined.{Action, refusal}
 use Rattle.machine.specs.Machine.{perform}
 use Rattle.sampling.specs.Visits.{moment, visiting}
@@ -34,16 +35,18 @@ module _ (s : State) (action : Action) (lent : List ℕ) {r : Answer} where
       let left : r .state ≡ s = rw (not-none n) at st in
       rw same (refused s action lent e (λ z. omega arith) f (rw (q, none, left)))
 
-  -- a call that visits: the moment visited is that of the machine where the number is 0, else that of the state as it was
-  pub visited : (cause : Cause) {n clock : ℕ} {readings : List Stored} {out : List ℕ} → numberOf s action lent ≡ n → refusal s n action ≡ []
-      → (n ≡ 0 → visit (s .sheet) (moment s clock readings) cause ≡ perform (s .sheet) s action) → ((n ≡ 0 → ⊥) → moment s clock readings ≡ s)
-      → r .number ≡ n → r .state ≡ visiting n (moment s clock readings) cause .next
-      → Sent (output lent 0) (visiting n (moment s clock readings) cause .sent) (output out (r .written)) → Answers s action lent r out
-  visited cause {n = zero} e f made same q st d =
+  -- a call that visits: what it comes to is what the machine makes of it where the number is 0, else nothing, with the state as it was
+  pub visited : (visits : Bool) (cause : Cause) (clock : ℕ) (readings : List Stored) {n : ℕ} {out : List ℕ} → numberOf s action lent ≡ n → refusal s n action ≡ []
+      → (n ≡ 0 → visiting visits (moment s clock readings) cause ≡ perform (s .sheet) s action)
+      → ((n ≡ 0 → ⊥) → visiting visits (moment s clock readings) cause ≡ sendsOnly s [])
+      → r .number ≡ n → r .state ≡ visiting visits (moment s clock readings) cause .next
+      → Sent (output lent 0) (visiting visits (moment s clock readings) cause .sent) (output out (r .written)) → Answers s action lent r out
+  visited visits cause clock readings {n = zero} e f made same q st d =
       one-exit e f q (st ∙ ap (λ (w : Work). w .next) (made refl)) (as-sent d (ap (λ (w : Work). w .sent) (made refl)))
-  visited cause {n = suc n} e f made same q st d =
+  visited visits cause clock readings {n = suc n} e f made same q st d =
       let z = not-none n in
-      one-exit e f q (rw z ((rw z at st) ∙ same (λ z. omega arith))) (rw z (rw z at d))
+      let left = same (λ z. omega arith) in
+      one-exit e f q (rw z (st ∙ ap (λ (w : Work). w .next) left)) (rw z (as-sent d (ap (λ (w : Work). w .sent) left)))
 
 -- clients and subscriptions that are chosen by a test, in a state that is chosen by it
 pub placed : (s : State) (b : Bool) (clients : List Client) (pairs : List Subscription) → withClients s (cond b clients (s .clients)) (cond b pairs (s .subscriptions)) ≡ cond b (withClients s clients pairs) s

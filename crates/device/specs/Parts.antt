@@ -6,7 +6,7 @@ use Rattle.value.specs.declared.Sampled.{Sampled}
 use Rattle.value.specs.declared.Sampled.the-variants.{As, Unfit}
 use Rattle.machine.specs.declared.Stored.{Stored}
 
--- the readings with a sensor's sample, if there is one, at a clock
+-- the readings with a sensor's sample, if there is one, at its own time
 abbrev pub readingsAfter : List Stored → ℕ → Sampled → ℕ → List Stored
-readingsAfter rs j (As x) clock = set rs j (record { sample = x; time = clock })
-readingsAfter rs j Unfit clock = rs
+readingsAfter rs j (As x) time = set rs j (record { sample = x; time = time })
+readingsAfter rs j Unfit time = rs

@@ -14,7 +14,7 @@ ghost use mathlib.Core.Path.{_≡_};
 ghost use mathlib.Core.Bool.{cond, _&&_};
 ghost use mathlib.Core.List.{[]};
 ghost use Prim.Native.Nat.{_/_, _≤_, _<_};
-ghost use lib.Dec.{eqb, leb};
+ghost use lib.Dec.{eqb, leb, ltb};
 ghost use lib.ListN.{length, getD};
 ghost use Rattle.output.specs.Output.{output};
 ghost use Rattle.output.specs.Read.{inTime};
@@ -221,50 +221,73 @@ pub fn tick(state: State, ms: u64, out: &mut [u8]) -> Answer
     let number = declining::rows(sheet::in_range(state), out.len(), state.halted, own);
     let clock = clock_after(number, ms, state.clock);
     let readings = state.readings;
-    sampling::visit(number, state, Cause::Tick, clock, readings, out)
+    sampling::visit(
+        number,
+        number == 0,
+        state,
+        Cause::Tick,
+        clock,
+        readings,
+        out,
+    )
 }
 
-// Row 10, behind the rows before it.
-fn sample_row(before: u8, sampled: Sampled) -> u8
-    ensures { λ r. ⌜ r ≡ cond (eqb before 0) (sampledNumber sampled) before ⌝ }
+// Row 26: a reading of its own time at a clock.
+fn time_row(clock: u64, time: u64) -> u8
+    ensures { λ r. ⌜ r ≡ cond (ltb clock time) 26 0 ⌝ }
+{
+    if clock < time { 26 } else { 0 }
+}
+
+// Row 10, between the rows before it and the one behind it.
+fn sample_row(before: u8, sampled: Sampled, behind: u8) -> u8
+    ensures { λ r. ⌜ r ≡ calls.rowsBehind before (calls.rowsBehind (sampledNumber sampled) behind) ⌝ }
 {
     if before != 0 {
         return before;
     }
     match sampled {
-        Sampled::As(_) => 0,
+        Sampled::As(_) => behind,
         Sampled::Unfit => 10,
     }
 }
 
-// The readings with a sensor's, at a clock; as they were where the call is declined.
-fn with_reading(
-    number: u8,
+// Whether a reading of its own time supersedes the stored one; not where the call is declined.
+fn does_supersede(number: u8, old: Stored, time: u64) -> bool
+    ensures { λ r. ⌜ r ≡ (eqb number 0 && states.supersedes time old) ⌝ }
+{
+    let sample = old.sample;
+    (number == 0) & ((old.time <= time) | (sample.kind == 0))
+}
+
+// The readings with a sensor's, at its own time, where it supersedes the stored one; else as they were.
+fn store(
+    newer: bool,
     readings: [Stored; machine::SENSORS],
     sensor: usize,
     sampled: Sampled,
-    clock: u64,
+    time: u64,
 ) -> [Stored; machine::SENSORS]
     requires { ⌜ sensor < 32 ⌝ }
-    ensures { λ r. ⌜ r ≡ cond (eqb number 0) (readingsAfter readings sensor sampled clock) readings ⌝ }
+    ensures { λ r. ⌜ r ≡ cond newer (readingsAfter readings sensor sampled time) readings ⌝ }
 {
     let mut next = readings;
-    if number == 0 {
+    if newer {
         if let Sampled::As(sample) = sampled {
             next[sensor] = Stored {
                 sample: sample,
-                time: clock,
+                time: time,
             };
         }
     }
     next
 }
 
-// A sensor's reading is stored, and the subscriptions to that sensor visited. Where no sensor has that place, another's type is asked, and row 9
-// decides all the same.
-pub fn reading(state: State, sensor: usize, reading: Reading, out: &mut [u8]) -> Answer
-    ensures { λ r. ⌜ r ≡ answerOf (step state (calls.callOf (calls.Reading sensor reading) (now (out .entry)))) ⌝ }
-    ensures { λ r. ⌜ now (out .exit) ≡ outputOf (step state (calls.callOf (calls.Reading sensor reading) (now (out .entry)))) (now (out .entry)) ⌝ }
+// A sensor's reading that brings its own time, in milliseconds. It is stored, and the subscriptions to that sensor visited, where it supersedes the
+// stored one; an older one changes nothing. Where no sensor has that place, another's type is asked, and row 9 decides all the same.
+pub fn reading(state: State, sensor: usize, reading: Reading, time: u64, out: &mut [u8]) -> Answer
+    ensures { λ r. ⌜ r ≡ answerOf (step state (calls.callOf (calls.Reading sensor (calls.arrival reading time)) (now (out .entry)))) ⌝ }
+    ensures { λ r. ⌜ now (out .exit) ≡ outputOf (step state (calls.callOf (calls.Reading sensor (calls.arrival reading time)) (now (out .entry)))) (now (out .entry)) ⌝ }
 {
     let sheet = state.sheet;
     let stored = state.readings;
@@ -272,11 +295,14 @@ pub fn reading(state: State, sensor: usize, reading: Reading, out: &mut [u8]) ->
     let before = declining::rows(sheet::in_range(state), out.len(), state.halted, own);
     let place = sensor % machine::SENSORS;
     let listed = sheet.sensors[place];
+    let old = stored[place];
     let sampled = value::sample_of(listed.kind, listed.option_count, reading);
-    let number = sample_row(before, sampled);
-    let readings = with_reading(number, stored, place, sampled, state.clock);
+    let number = sample_row(before, sampled, time_row(state.clock, time));
+    let newer = does_supersede(number, old, time);
+    let readings = store(newer, stored, place, sampled, time);
     sampling::visit(
         number,
+        newer,
         state,
         Cause::Reading(place),
         state.clock,

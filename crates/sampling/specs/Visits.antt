@@ -2,7 +2,7 @@
 use Prim.Native.Nat.{ℕ, _+_, _-_, _%_}
 use mathlib.Core.Bool.{Bool, true, false, cond, not}
 use mathlib.Core.List.{List, []}
-use lib.Dec.{eqb, ltb}
+use lib.Dec.{ltb}
 use Rattle.machine.specs.declared.Cause.{Cause}
 use Rattle.machine.specs.declared.Cause.the-variants.{Tick, Reading}
 use Rattle.machine.specs.declared.State.{State}
@@ -16,9 +16,9 @@ use Rattle.machine.specs.Report.{Work, visit}
 abbrev pub moment : State → ℕ → List Stored → State
 moment s clock readings = withReadings (withClock s clock) readings
 
--- what a call of a number does to it: one that is declined visits nothing
-abbrev pub visiting : ℕ → State → Cause → Work
-visiting number s cause = cond (eqb number 0) (visit (s .sheet) s cause) (record { sent = []; next = s })
+-- what a call does to it: one that is declined visits nothing, and neither does a reading that is older than the stored one
+abbrev pub visiting : Bool → State → Cause → Work
+visiting visits s cause = cond visits (visit (s .sheet) s cause) (record { sent = []; next = s })
 
 -- whether a strategy can report at a reading, or else at a tick, whatever the last report and the present reading are
 unfoldable pub canReport : Bool → Strategy → Bool
@@ -35,9 +35,9 @@ abbrev pub firstOf : Cause → ℕ
 firstOf Tick = 0
 firstOf (Reading j) = cond (ltb j 32) j 256
 
--- and of the visit of a call of a number: none for one that is declined
-unfoldable pub firstPlace : ℕ → Cause → ℕ
-firstPlace number cause = cond (eqb number 0) (firstOf cause) 256
+-- and of a call: none where it visits nothing
+unfoldable pub firstPlace : Bool → Cause → ℕ
+firstPlace visits cause = cond visits (firstOf cause) 256
 
 -- the place behind p, where client and sensor of p are there or not
 unfoldable pub nextPlace : Cause → Bool → ℕ → ℕ

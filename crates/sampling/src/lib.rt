@@ -255,10 +255,10 @@ fn after_report(clock: u64, present: Sample, pair: Subscription) -> Subscription
 }
 
 // The first place that the visit of a call goes to; 256, behind all places, where it goes to none.
-fn first_place(number: u8, cause: Cause) -> usize
-    ensures { λ r. ⌜ r ≡ visits.firstPlace number cause ⌝ }
+fn first_place(visiting: bool, cause: Cause) -> usize
+    ensures { λ r. ⌜ r ≡ visits.firstPlace visiting cause ⌝ }
 {
-    if number != 0 {
+    if !visiting {
         return machine::PAIRS;
     }
     match cause {
@@ -318,10 +318,12 @@ pub fn with_strategy(
 }
 
 // The answer of a call that visits subscriptions, clients by their number, each in sheet order, once clock and readings are these. A pair is
-// asked for its strategy first, and its sensor only where that can report. A call that a row declines visits none: with the clock and the
-// readings of the state it leaves the state as it was. There is one exit, so that the answer is written once.
+// asked for its strategy first, and its sensor only where that can report. A call that is not `visiting` visits none (a row declines it, or its
+// reading is older than the stored one): with the clock and the readings of the state it leaves the state as it was. There is one exit, so that
+// the answer is written once.
 pub fn visit(
     number: u8,
+    visiting: bool,
     s: State,
     cause: Cause,
     clock: u64,
@@ -329,8 +331,8 @@ pub fn visit(
     out: &mut [u8],
 ) -> Answer
     ensures { λ r. ⌜ r .number ≡ number ⌝ }
-    ensures { λ r. ⌜ r .state ≡ visits.visiting number (visits.moment s clock readings) cause .next ⌝ }
-    ensures { λ r. ⌜ Sent (output (now (out .entry)) 0) (visits.visiting number (visits.moment s clock readings) cause .sent) (output (now (out .exit)) (r .written)) ⌝ }
+    ensures { λ r. ⌜ r .state ≡ visits.visiting visiting (visits.moment s clock readings) cause .next ⌝ }
+    ensures { λ r. ⌜ Sent (output (now (out .entry)) 0) (visits.visiting visiting (visits.moment s clock readings) cause .sent) (output (now (out .exit)) (r .written)) ⌝ }
 {
     let sheet = s.sheet;
     let clients = s.clients;
@@ -338,7 +340,7 @@ pub fn visit(
     let count = sheet.count as usize;
     let reading = by_reading(cause);
     let mut at: usize = 0;
-    let mut p = first_place(number, cause);
+    let mut p = first_place(visiting, cause);
     while p < machine::PAIRS {
         let c = p / machine::SENSORS;
         let j = p % machine::SENSORS;

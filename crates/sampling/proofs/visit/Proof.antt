@@ -4,7 +4,6 @@ use native.Mathlib.Omega.{arith}
 use mathlib.Core.Path.{refl, sym, _∙_}
 use mathlib.Core.Logic.{⊎-elim}
 use mathlib.Core.Bool.{true, false}
-use lib.Dec.{eqb}
 use borrow.Author.Needs.{needs}
 use Rattle.output.specs.Output.{output}
 use Rattle.message.proofs.DeliveryLaws.{kept}
@@ -15,11 +14,11 @@ use Rattle.sampling.proofs.visit.Statement.{statement}
 use Rattle.sampling.proofs.visit.Tie as tie
 
 abbrev Inv-loop : tie.InvT-loop
-Inv-loop number s cause clock out₀ readings sheet clients pairs₀ count reading at₀ p₀ out pairs at p =
-    Come (eqb number 0) (moment s clock readings) cause (output out₀ 0) p pairs (output out at)
+Inv-loop number visiting s cause clock out₀ readings sheet clients pairs₀ count reading at₀ p₀ out pairs at p =
+    Come visiting (moment s clock readings) cause (output out₀ 0) p pairs (output out at)
 
 abbrev μ-loop : tie.MeasureT-loop
-μ-loop number s cause clock out₀ readings sheet clients pairs₀ count reading at₀ p₀ out pairs at p = 256 - p
+μ-loop number visiting s cause clock out₀ readings sheet clients pairs₀ count reading at₀ p₀ out pairs at p = 256 - p
 
 loop-holds : tie.Need-loop-holds Inv-loop μ-loop
 unfolding firstPlace
@@ -37,7 +36,7 @@ loop-again c =
     let start = c4 in
     let loop = c2 .loop in
     let test : loop .p < 256 = c1 .loop-test .taken in
-    let all = subscriptions-many (start .args .s) _ (start .good .1 .0) in
+    let all = subscriptions-many (start .args .s) _ (start .good .1 .1 .0) in
     let reading = c3 .by-reading in let can = c .before .before .can-report in
     next-come all test (loop .inv) (c .next-place .ensures)
     (⊎-elim
@@ -59,10 +58,10 @@ returns c =
     let start = c2 in (
       refl,
       visited
-          (eqb (start .args .number) 0)
-          (moment (start .args .s) (start .args .clock) (start .args .t5))
+          (start .args .visiting)
+          (moment (start .args .s) (start .args .clock) (start .args .t6))
           (start .args .cause)
-          (subscriptions-many (start .args .s) _ (start .good .1 .0))
+          (subscriptions-many (start .args .s) _ (start .good .1 .1 .0))
           (c1 .loop .inv)
           (c .loop-test .left),
     )
