@@ -54,8 +54,8 @@ roundAction rounds.Setup line k = cond (eqb (k % 2) 0) (calls.Connect (k / 2) (t
 roundAction rounds.Connect line k = cond (eqb (k % 2) 0) (calls.Connect 7 (text "bench")) (calls.Disconnect 7)
 -- to k ms
 roundAction rounds.Tick line k = calls.Tick k
--- 7, for sensor 0
-roundAction rounds.Reading line k = calls.Reading 0 (Integer (pos 7))
+-- 7, for sensor 0, at time 0: it supersedes, since the readings before it are of that time too
+roundAction rounds.Reading line k = calls.Reading 0 (calls.arrival (Integer (pos 7)) 0)
 -- of client 0
 roundAction rounds.Line line k = calls.Line 0 line
 

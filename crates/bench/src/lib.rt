@@ -66,7 +66,7 @@ fn turn(state: State, round: Round, line: &[u8], k: u64, out: &mut [u8]) -> Answ
         Round::Setup => setup_turn(state, line, k, out),
         Round::Connect => connect_turn(state, k, out),
         Round::Tick => device::tick(state, k, out),
-        Round::Reading => device::reading(state, 0, Reading::Integer(7), out),
+        Round::Reading => device::reading(state, 0, Reading::Integer(7), 0, out),
         Round::Line => device::line(state, 0, line, out),
     }
 }
@@ -220,7 +220,7 @@ pub extern "C" fn bench_reading(sheet: &[u8], out: &mut [u8]) -> u8
     ensures { λ r. ⌜ now (out .exit) ≡ outputOf (spec.onFresh (now (sheet .entry)) (spec.roundAction rounds.Reading [] 0) (now (out .entry))) (now (out .entry)) ⌝ }
 {
     let fresh = device::open(sheet);
-    let answer = device::reading(fresh.state, 0, Reading::Integer(7), out);
+    let answer = device::reading(fresh.state, 0, Reading::Integer(7), 0, out);
     judged(answer.number, answer.state)
 }
 

@@ -19,7 +19,7 @@ module _ (s : State) (line out : List ℕ) where
       let w = lt-ltb 65536 (length line) h in
       (rw (w, e), rw w (sym (take-append-drop (lentBy line) out)))
 
-  pub made : {c : Command} {n : ℕ} {a : Answer} {part : List ℕ} → c ≡ commandOf line → n ≡ min (lentBy line) (length out)
+  pub made : {c : Command} {n : ℕ} {a : Answer} {part : List ℕ} → c ≡ commandOf (s .clock) line → n ≡ min (lentBy line) (length out)
       → (a ≡ answered s (take n out) (asking line c)) × (part ≡ left s (take n out) (asking line c))
       → (record { command = c; answer = a } ≡ performed s line out) × (part ++ drop n out ≡ outputAfter s line out)
   unfolding performed outputAfter

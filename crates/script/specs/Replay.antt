@@ -35,7 +35,7 @@ asking line commands.Open = Opening (bytesAt 1 line)
 asking line (commands.Connect c) = Calling (calls.Connect c (bytesAt 3 line))
 asking line (commands.Disconnect c) = Calling (calls.Disconnect c)
 asking line (commands.Tick t) = Calling (calls.Tick t)
-asking line (commands.Reading j r) = Calling (calls.Reading j r)
+asking line (commands.Reading j r t) = Calling (calls.Reading j (calls.arrival r t))
 asking line (commands.Log level) = Calling (calls.Log level (bytesAt 3 line) (bytesAt 4 line))
 asking line (commands.Line c) = Calling (calls.Line c (bytesAt 3 line))
 
@@ -57,9 +57,9 @@ left s lent (Calling action) = outputOf (step s (callOf action lent)) lent
 
 -- A line on a device, with an output at hand. "above 65,536 it is lent as 65,536": of the output at hand there is no more.
 
--- what the line asks
-abbrev pub asked : List ℕ → Asking
-asked line = asking line (commandOf line)
+-- what the line asks, at a clock
+abbrev pub asked : ℕ → List ℕ → Asking
+asked clock line = asking line (commandOf clock line)
 
 -- the part of the output that is lent
 abbrev pub lentOf : List ℕ → List ℕ → List ℕ
@@ -67,11 +67,11 @@ lentOf line out = take (lentBy line) out
 
 -- its command, and what is answered
 unfoldable pub performed : State → List ℕ → List ℕ → Performed
-performed s line out = record { command = commandOf line; answer = answered s (lentOf line out) (asked line) }
+performed s line out = record { command = commandOf (s .clock) line; answer = answered s (lentOf line out) (asked (s .clock) line) }
 
 -- the output at hand then: past the lent part it is as it was
 unfoldable pub outputAfter : State → List ℕ → List ℕ → List ℕ
-outputAfter s line out = left s (lentOf line out) (asked line) ++ drop (lentBy line) out
+outputAfter s line out = left s (lentOf line out) (asked (s .clock) line) ++ drop (lentBy line) out
 
 -- "`NUMBER OUTPUT`: the number, and the bytes counted as written in hex"
 unfoldable pub answerLine : ℕ → List ℕ → List ℕ
@@ -85,6 +85,6 @@ reply commands.Open n bs = answerLine n bs
 reply (commands.Connect c) n bs = answerLine n bs
 reply (commands.Disconnect c) n bs = answerLine n bs
 reply (commands.Tick t) n bs = answerLine n bs
-reply (commands.Reading j r) n bs = answerLine n bs
+reply (commands.Reading j r t) n bs = answerLine n bs
 reply (commands.Log level) n bs = answerLine n bs
 reply (commands.Line c) n bs = answerLine n bs

@@ -3,12 +3,12 @@
 --   connect LENT CLIENT ADDRESS
 --   disconnect LENT CLIENT
 --   tick LENT MS
---   reading LENT SENSOR KIND VALUE
+--   reading LENT SENSOR KIND VALUE [TIME]
 --   log LENT LEVEL LOGGER MESSAGE
 --   line LENT CLIENT LINE
 use Prim.Native.Nat.{ℕ}
 use Prim.Native.Char.{code}
-use mathlib.Core.Bool.{Bool, true, cond, _&&_}
+use mathlib.Core.Bool.{Bool, true, cond, _&&_, _||_}
 use mathlib.Core.List.{List, [], _∷_}
 use lib.Dec.{eqb, leb, ltb}
 use lib.Ieee.{binary64, ofBits}
@@ -87,40 +87,49 @@ given kind t =
 abbrev pub hasBytes : ℕ → List ℕ → Bool
 hasBytes k line = isBytes (wordAt k line)
 
--- a reading that was given, or none
-abbrev pub reading : ℕ → Given → Command
-reading j Unread = commands.Wrong
-reading j (A r) = commands.Reading j r
+-- a reading with its value, and with its time or without
+unfoldable pub isReading : List ℕ → Bool
+isReading line = hasWords (text "reading") 4 line || hasWords (text "reading") 5 line
 
--- a line whose number behind LENT is n
-unfoldable pub called : List ℕ → ℕ → Command
-called line n =
+-- "TIME from (g) on; none is the clock of the state at hand"
+unfoldable pub timeAt : ℕ → List ℕ → Number
+timeAt clock line = cond (hasWords (text "reading") 4 line) (Is clock) (numberAt 5 line)
+
+-- a reading that was given, with its time, or none
+abbrev pub reading : ℕ → Given → Number → Command
+reading j Unread t = commands.Wrong
+reading j (A r) Bad = commands.Wrong
+reading j (A r) (Is t) = commands.Reading j r t
+
+-- a line whose number behind LENT is n, at the clock of the state at hand
+unfoldable pub called : ℕ → List ℕ → ℕ → Command
+called clock line n =
     cond (hasWords (text "connect") 3 line && hasBytes 3 line) (commands.Connect n)
     (cond (hasWords (text "disconnect") 2 line) (commands.Disconnect n)
     (cond (hasWords (text "tick") 2 line) (commands.Tick n)
-    (cond (hasWords (text "reading") 4 line) (reading n (given (wordAt 3 line) (wordAt 4 line)))
+    (cond (isReading line) (reading n (given (wordAt 3 line) (wordAt 4 line)) (timeAt clock line))
     (cond (hasWords (text "log") 4 line && (leb n 255 && (hasBytes 3 line && hasBytes 4 line))) (commands.Log n)
     (cond (hasWords (text "line") 3 line && hasBytes 3 line) (commands.Line n)
     commands.Wrong)))))
 
 -- by LENT and the number behind it
-abbrev pub byNumbers : List ℕ → Number → Number → Command
-byNumbers line Bad m = commands.Wrong
-byNumbers line (Is lent) Bad = commands.Wrong
-byNumbers line (Is lent) (Is n) = called line n
+abbrev pub byNumbers : ℕ → List ℕ → Number → Number → Command
+byNumbers clock line Bad m = commands.Wrong
+byNumbers clock line (Is lent) Bad = commands.Wrong
+byNumbers clock line (Is lent) (Is n) = called clock line n
 
 -- "Empty lines and lines that begin with `;` are passed over"
 abbrev pub passed : List ℕ → Bool
 passed [] = true
 passed (b ∷ s) = eqb b (code ";")
 
--- a line's command; "a line over 65,536 bytes" is no call
-unfoldable pub commandOf : List ℕ → Command
-commandOf line =
+-- a line's command, at the clock of the state at hand; "a line over 65,536 bytes" is no call
+unfoldable pub commandOf : ℕ → List ℕ → Command
+commandOf clock line =
     cond (ltb 65536 (length line)) commands.Wrong
     (cond (passed line) commands.Passed
     (cond (hasWords (text "open") 1 line && hasBytes 1 line) commands.Open
-    (byNumbers line (numberAt 1 line) (numberAt 2 line))))
+    (byNumbers clock line (numberAt 1 line) (numberAt 2 line))))
 
 -- "LENT is the length of the lent output", of a call
 abbrev pub orNone : Number → ℕ

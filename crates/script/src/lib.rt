@@ -42,7 +42,8 @@ pub enum Command {
     Connect(usize),
     Disconnect(usize),
     Tick(u64),
-    Reading(usize, Reading),
+    // sensor, reading, its time
+    Reading(usize, Reading, u64),
     Log(u8),
     Line(usize),
 }
@@ -176,19 +177,39 @@ fn has_bytes(line: &[u8], k: usize) -> bool
     hex::is_bytes(input::word(line, k))
 }
 
+// Whether a line gives a reading, with its time or without.
+fn is_reading(line: &[u8]) -> bool
+    ensures { λ r. ⌜ r ≡ scripts.isReading (now (line .entry)) ⌝ }
+{
+    input::has_words(line, b"reading", 4) | input::has_words(line, b"reading", 5)
+}
+
+// The time of a reading: the clock where the line has none.
+fn time_at(clock: u64, line: &[u8]) -> Number
+    ensures { λ r. ⌜ r ≡ scripts.timeAt clock (now (line .entry)) ⌝ }
+{
+    if input::has_words(line, b"reading", 4) {
+        return Number::Is(clock);
+    }
+    number_at(line, 5)
+}
+
 // A reading that a line gives.
-fn reading_command(line: &[u8], sensor: usize) -> Command
-    ensures { λ r. ⌜ r ≡ scripts.reading sensor (scripts.given (wordAt 3 (now (line .entry))) (wordAt 4 (now (line .entry)))) ⌝ }
+fn reading_command(clock: u64, line: &[u8], sensor: usize) -> Command
+    ensures { λ r. ⌜ r ≡ scripts.reading sensor (scripts.given (wordAt 3 (now (line .entry))) (wordAt 4 (now (line .entry)))) (scripts.timeAt clock (now (line .entry))) ⌝ }
 {
     let Given::A(r) = reading_of(input::word(line, 3), input::word(line, 4)) else {
         return Command::Wrong;
     };
-    Command::Reading(sensor, r)
+    let Number::Is(time) = time_at(clock, line) else {
+        return Command::Wrong;
+    };
+    Command::Reading(sensor, r, time)
 }
 
 // A line whose number behind LENT is `n`.
-fn called(line: &[u8], n: u64) -> Command
-    ensures { λ r. ⌜ r ≡ scripts.called (now (line .entry)) n ⌝ }
+fn called(clock: u64, line: &[u8], n: u64) -> Command
+    ensures { λ r. ⌜ r ≡ scripts.called clock (now (line .entry)) n ⌝ }
 {
     if input::has_words(line, b"connect", 3) & has_bytes(line, 3) {
         return Command::Connect(n as usize);
@@ -199,8 +220,8 @@ fn called(line: &[u8], n: u64) -> Command
     if input::has_words(line, b"tick", 2) {
         return Command::Tick(n);
     }
-    if input::has_words(line, b"reading", 4) {
-        return reading_command(line, n as usize);
+    if is_reading(line) {
+        return reading_command(clock, line, n as usize);
     }
     if input::has_words(line, b"log", 4)
         & ((n <= 255) & (has_bytes(line, 3) & has_bytes(line, 4)))
@@ -223,10 +244,10 @@ fn is_passed(line: &[u8]) -> bool
     line[0] == b';'
 }
 
-// What a line of at most 65,536 bytes asks.
-fn command_of(line: &[u8]) -> Command
+// What a line of at most 65,536 bytes asks of a device with that clock.
+fn command_of(clock: u64, line: &[u8]) -> Command
     requires { ⌜ length (now line) ≤ 65536 ⌝ }
-    ensures { λ r. ⌜ r ≡ scripts.commandOf (now (line .entry)) ⌝ }
+    ensures { λ r. ⌜ r ≡ scripts.commandOf clock (now (line .entry)) ⌝ }
 {
     if is_passed(line) {
         return Command::Passed;
@@ -240,7 +261,7 @@ fn command_of(line: &[u8]) -> Command
     let Number::Is(n) = number_at(line, 2) else {
         return Command::Wrong;
     };
-    called(line, n)
+    called(clock, line, n)
 }
 
 // How much of an output of `len` bytes a line lends.
@@ -310,7 +331,9 @@ fn carry_out(state: State, line: &[u8], command: Command, out: &mut [u8]) -> Ans
         Command::Connect(client) => connect(state, line, client, out),
         Command::Disconnect(client) => device::disconnect(state, client, out),
         Command::Tick(ms) => device::tick(state, ms, out),
-        Command::Reading(sensor, reading) => device::reading(state, sensor, reading, out),
+        Command::Reading(sensor, reading, time) => {
+            device::reading(state, sensor, reading, time, out)
+        }
         Command::Log(level) => log(state, line, level, out),
         Command::Line(client) => client_line(state, line, client, out),
     }
@@ -327,7 +350,7 @@ pub fn perform(state: State, line: &[u8], out: &mut [u8]) -> Performed
             answer: declining::silent(0, state),
         };
     }
-    let command = command_of(line);
+    let command = command_of(state.clock, line);
     let n = lent_len(line, out.len());
     let answer = carry_out(state, line, command, &mut out[..n]);
     Performed {

@@ -27,8 +27,6 @@ use Rattle.machine.proofs.StepLaws.{carried-out}
 use Rattle.machine.proofs.KeptInRange.{kept-in-range}
 use Rattle.machine.proofs.OpenedRange.{fresh-range, opened-cases}
 use Rattle.machine.proofs.ArchiveLaws.{lines-are}
-use Rattle.input.specs.Words.{wordAt, hasWords}
-use Rattle.terminal.specs.Entry.{entryOf, actionBy}
 use Rattle.terminal.specs.Start.{connecting, asking, firstCalls, Begins}
 
 -- the reply
@@ -61,7 +59,7 @@ module _ (lent next : List ℕ) where
     with-console-in-range = subst (λ (e : Effect). inRange (e .next) ≡ true) connect-done (kept-in-range .step-in-range (fresh sheet) fresh-in-range (callOf connecting lent))
 
     asking-fits : actionDeclined sheet with-console asking ≡ 0
-    unfolding withClient tabulate firstBelow actionBy entryOf hasWords wordAt actionDeclined clientDeclined lineDeclined countFits argumentsDeclined levelOf levelText asked requestNamed isDigit blank letter titleByte kindByte plain escapeOf parse blankLine
+    unfolding withClient tabulate firstBelow actionDeclined clientDeclined lineDeclined countFits argumentsDeclined levelOf levelText asked requestNamed isDigit blank letter titleByte kindByte plain escapeOf parse blankLine
     asking-fits = refl
 
     asking-done : step with-console (callOf asking next) ≡ done (perform sheet with-console asking)
@@ -73,7 +71,7 @@ module _ (lent next : List ℕ) where
     heard = refl
 
     level-set : perform sheet with-console asking ≡ record { sent = to 0 answered ∷ []; next = withLevel with-console 4 }
-    unfolding firstBelow actionBy entryOf hasWords wordAt perform lineWork answer levelOf levelText asked requestNamed isDigit blank letter titleByte kindByte plain escapeOf parse blankLine
+    unfolding firstBelow perform lineWork answer levelOf levelText asked requestNamed isDigit blank letter titleByte kindByte plain escapeOf parse blankLine
     level-set = refl
 
     facts : Facts (fresh sheet)
@@ -87,7 +85,7 @@ module _ (lent next : List ℕ) where
     }
 
 pub begins : Begins
-unfolding after messagesOf actionBy entryOf hasWords wordAt levelText arg escape escapeByte idText writeTo
+unfolding after messagesOf levelText arg escape escapeByte idText writeTo
 begins bytes lent next e room more =
     let f = opened-cases (λ (o : Opened). o .number ≡ 0 → Facts lent next (o .state)) bytes (λ sheet ok _. facts lent next room more sheet ok) (λ q. absurd (omega arith)) e in
     record {

@@ -54,12 +54,12 @@ entryOf line =
     (cond (hasWords (text "=") 2 line) (giving (natural (wordAt 1 line) (readDecimal (wordAt 1 line))) (wordAt 2 line))
     Line))
 
--- the call that it makes
-unfoldable pub actionBy : List ℕ → Entry → Action
-actionBy line (Tick n) = calls.Tick n
-actionBy line (Reading s r) = calls.Reading s r
-actionBy line Line = calls.Line 0 line
+-- the call that it makes at a clock: document 02, (g), "the console gives the clock"
+unfoldable pub actionBy : ℕ → List ℕ → Entry → Action
+actionBy clock line (Tick n) = calls.Tick n
+actionBy clock line (Reading s r) = calls.Reading s (calls.arrival r clock)
+actionBy clock line Line = calls.Line 0 line
 
 -- the call that an input line makes
-abbrev pub actionOf : List ℕ → Action
-actionOf line = actionBy line (entryOf line)
+abbrev pub actionOf : ℕ → List ℕ → Action
+actionOf clock line = actionBy clock line (entryOf line)

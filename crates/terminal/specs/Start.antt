@@ -7,17 +7,16 @@ use Rattle.output.specs.Text.{text}
 use Rattle.message.specs.Message.{line}
 use Rattle.machine.specs.Opening.{opened}
 use Rattle.machine.specs.Messages.{versionConnect, deviceArgs, levelText}
-use Rattle.machine.specs.Declined.{Action, Connect, Call, callOf}
+use Rattle.machine.specs.Declined.{Action, Connect, Line, Call, callOf}
 use Rattle.machine.specs.TwoDevices.{after, sheetOf, linesOf}
-use Rattle.terminal.specs.Entry.{actionOf}
 
 -- document 01: "connects client 0 as `console`"
 abbrev pub connecting : Action
 connecting = Connect 0 (text "console")
 
--- document 02, (e): "The console relied on info, so it sends `?log-level info` after connecting", as it sends an input line
+-- document 02, (e): "The console relied on info, so it sends `?log-level info` after connecting", as client 0's line
 abbrev pub asking : Action
-asking = actionOf (text "?log-level info")
+asking = Line 0 (text "?log-level info")
 
 -- these two calls, each lent an output, the latest first
 abbrev pub firstCalls : List ℕ → List ℕ → List Call

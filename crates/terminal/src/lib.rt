@@ -102,15 +102,21 @@ fn entry_of(line: &[u8]) -> Entry
     Entry::Line
 }
 
-// The call that an input line makes.
+// The call that an input line makes; a reading is given the clock as its time.
 pub fn perform(state: State, line: &[u8], out: &mut [u8]) -> Answer
-    ensures { λ r. ⌜ r ≡ answerOf (step state (calls.callOf (entries.actionOf (now (line .entry))) (now (out .entry)))) ⌝ }
-    ensures { λ r. ⌜ now (out .exit) ≡ outputOf (step state (calls.callOf (entries.actionOf (now (line .entry))) (now (out .entry)))) (now (out .entry)) ⌝ }
+    ensures { λ r. ⌜ r ≡ answerOf (step state (calls.callOf (entries.actionOf (state .clock) (now (line .entry))) (now (out .entry)))) ⌝ }
+    ensures { λ r. ⌜ now (out .exit) ≡ outputOf (step state (calls.callOf (entries.actionOf (state .clock) (now (line .entry))) (now (out .entry)))) (now (out .entry)) ⌝ }
 {
     let entry = entry_of(line);
     match entry {
         Entry::Tick(ms) => device::tick(state, ms, out),
-        Entry::Reading(sensor, reading) => device::reading(state, sensor, reading, out),
+        Entry::Reading(sensor, reading) => device::reading(
+            state,
+            sensor,
+            reading,
+            state.clock,
+            out,
+        ),
         Entry::Line => device::line(state, 0, line, out),
     }
 }
@@ -128,7 +134,7 @@ pub fn ask_info(state: State, out: &mut [u8]) -> Answer
     ensures { λ r. ⌜ r ≡ answerOf (step state (calls.callOf start.asking (now (out .entry)))) ⌝ }
     ensures { λ r. ⌜ now (out .exit) ≡ outputOf (step state (calls.callOf start.asking (now (out .entry)))) (now (out .entry)) ⌝ }
 {
-    perform(state, b"?log-level info", out)
+    device::line(state, 0, b"?log-level info", out)
 }
 
 // Where a line of a delivery ends that starts at `at`, with a length of two bytes, in an output of `len` bytes.

@@ -1,14 +1,19 @@
 -- By the word, the number of words behind it, and those that stand for bytes.
 use borrow.Author.Needs.{needs}
+use Prim.Native.Nat.{ℕ, _≤_}
 use native.Mathlib.Omega.{arith}
-use mathlib.Core.Path.{sym, _∙_}
-use mathlib.Core.Bool.{_&&_}
+use mathlib.Core.Path.{_≡_, sym, _∙_}
+use mathlib.Core.Bool.{Bool, true, _&&_}
 use lib.Dec.{leb}
 use borrow.Author.Tests.{leb-true}
 use Rattle.machine.proofs.TestLaws.{and-true}
 use Rattle.script.specs.Script.{called}
 use Rattle.script.proofs.called.Statement.{statement}
 use Rattle.script.proofs.called.Tie as tie
+
+-- a level that is taken for a byte is one
+byte-level : (n : ℕ) (a b : Bool) → (a && (leb n 255 && b)) ≡ true → n ≤ 255
+byte-level n a b h = leb-true n 255 (and-true (leb n 255) b (and-true a (leb n 255 && b) h .1) .0)
 
 returns : tie.Need-returns
 unfolding called
@@ -33,64 +38,60 @@ returns-3 c =
 returns-4 : tie.Need-returns-4
 unfolding called
 returns-4 c =
-    let c4 = c .before in let c3 = c4 .before .before .before in
+    let c4 = c .before in let c3 = c4 .before .before in
     let c2 = c3 .before .before .before in let c1 = c2 .before .before .before in
     rw (
       rw (c1 .before .before .has-words .ensures, c1 .before .has-bytes .ensures) at (c1 .if1 .left),
       sym (c2 .before .has-words2 .ensures) ∙ c2 .if2 .left,
       sym (c3 .before .has-words3 .ensures) ∙ c3 .if3 .left,
-      sym (c4 .before .has-words4 .ensures) ∙ c4 .if4 .taken,
+      sym (c4 .before .is-reading .ensures) ∙ c4 .if4 .taken,
     ) (c .reading-command .ensures)
-
-cast-t32 : tie.Need-cast-t32
-cast-t32 c =
-    let c1 = c .before .before .before .before in let c2 = c1 .before .before .before .before in let c3 = c2 .before .before .before .before in let c4 = c3 .before .before .before .before in let c5 = c4 .before .before .before in
-    let n = c5 .args .n in
-    omega (arith, leb-true n 255 (and-true (leb n 255) (c .before .before .has-bytes2 .result && c .before .has-bytes3 .result) (and-true (c .before .before .before .has-words5 .result) _ (c .if5 .taken) .1) .0))
 
 returns-5 : tie.Need-returns-5
 unfolding called
 returns-5 c =
-    let c4a = c .before .before .before in let c4 = c4a .before .before in let c3 = c4 .before .before .before in
+    let c4a = c .before .before .before in let c4 = c4a .before .before in let c3 = c4 .before .before in
     let c2 = c3 .before .before .before in let c1 = c2 .before .before .before in
     rw (
       rw (c1 .before .before .has-words .ensures, c1 .before .has-bytes .ensures) at (c1 .if1 .left),
       sym (c2 .before .has-words2 .ensures) ∙ c2 .if2 .left,
       sym (c3 .before .has-words3 .ensures) ∙ c3 .if3 .left,
-      sym (c4 .before .has-words4 .ensures) ∙ c4 .if4 .left,
-      rw (c .before .before .before .has-words5 .ensures, c .before .before .has-bytes2 .ensures, c .before .has-bytes3 .ensures) at (c .if5 .taken),
+      sym (c4 .before .is-reading .ensures) ∙ c4 .if4 .left,
+      rw (c .before .before .before .has-words4 .ensures, c .before .before .has-bytes2 .ensures, c .before .has-bytes3 .ensures) at (c .if5 .taken),
     )
 
 returns-6 : tie.Need-returns-6
 unfolding called
 returns-6 c =
     let c5 = c .before .before .before .before in
-    let c4a = c5 .before .before .before in let c4 = c4a .before .before in let c3 = c4 .before .before .before in
+    let c4a = c5 .before .before .before in let c4 = c4a .before .before in let c3 = c4 .before .before in
     let c2 = c3 .before .before .before in let c1 = c2 .before .before .before in
     rw (
       rw (c1 .before .before .has-words .ensures, c1 .before .has-bytes .ensures) at (c1 .if1 .left),
       sym (c2 .before .has-words2 .ensures) ∙ c2 .if2 .left,
       sym (c3 .before .has-words3 .ensures) ∙ c3 .if3 .left,
-      sym (c4 .before .has-words4 .ensures) ∙ c4 .if4 .left,
-      rw (c5 .before .before .before .has-words5 .ensures, c5 .before .before .has-bytes2 .ensures, c5 .before .has-bytes3 .ensures) at (c5 .if5 .left),
-      rw (c .before .before .has-words6 .ensures, c .before .has-bytes4 .ensures) at (c .if6 .taken),
+      sym (c4 .before .is-reading .ensures) ∙ c4 .if4 .left,
+      rw (c5 .before .before .before .has-words4 .ensures, c5 .before .before .has-bytes2 .ensures, c5 .before .has-bytes3 .ensures) at (c5 .if5 .left),
+      rw (c .before .before .has-words5 .ensures, c .before .has-bytes4 .ensures) at (c .if6 .taken),
     )
 
 returns-7 : tie.Need-returns-7
 unfolding called
 returns-7 c =
     let c5 = c .before .before .before .before in
-    let c4a = c5 .before .before .before in let c4 = c4a .before .before in let c3 = c4 .before .before .before in
+    let c4a = c5 .before .before .before in let c4 = c4a .before .before in let c3 = c4 .before .before in
     let c2 = c3 .before .before .before in let c1 = c2 .before .before .before in
     rw (
       rw (c1 .before .before .has-words .ensures, c1 .before .has-bytes .ensures) at (c1 .if1 .left),
       sym (c2 .before .has-words2 .ensures) ∙ c2 .if2 .left,
       sym (c3 .before .has-words3 .ensures) ∙ c3 .if3 .left,
-      sym (c4 .before .has-words4 .ensures) ∙ c4 .if4 .left,
-      rw (c5 .before .before .before .has-words5 .ensures, c5 .before .before .has-bytes2 .ensures, c5 .before .has-bytes3 .ensures) at (c5 .if5 .left),
-      rw (c .before .before .has-words6 .ensures, c .before .has-bytes4 .ensures) at (c .if6 .left),
+      sym (c4 .before .is-reading .ensures) ∙ c4 .if4 .left,
+      rw (c5 .before .before .before .has-words4 .ensures, c5 .before .before .has-bytes2 .ensures, c5 .before .has-bytes3 .ensures) at (c5 .if5 .left),
+      rw (c .before .before .has-words5 .ensures, c .before .has-bytes4 .ensures) at (c .if6 .left),
     )
 
 pub called-spec : {M : Type 1} → statement M
 called-spec =
-    tie.close (tie.spec (λ c. search needs) (λ c κs. search needs) (λ c κs. search needs) returns (λ c. search needs) (λ c κs. search needs) returns-2 (λ c. search needs) (λ c κs. search needs) returns-3 (λ c. search needs) (λ c κs. search needs) (λ c κs. search needs) returns-4 (λ c. search needs) (λ c κs. search needs) (λ c κs. search needs) (λ c κs. search needs) cast-t32 returns-5 (λ c. search needs) (λ c κs. search needs) (λ c κs. search needs) returns-6 returns-7)
+    tie.close (tie.spec (λ c. search needs) (λ c κs. search needs) (λ c κs. search needs) returns (λ c. search needs) (λ c κs. search needs) returns-2 (λ c. search needs) (λ c κs. search needs) returns-3 (λ c κs. search needs) (λ c κs. search needs) returns-4 (λ c. search needs) (λ c κs. search needs) (λ c κs. search needs) (λ c κs. search needs)
+    (λ c. let c1 = c .before .before .before .before in let c2 = c1 .before .before .before .before in let c3 = c2 .before .before .before .before in let c4 = c3 .before .before .before in
+    omega (arith, byte-level (c4 .before .before .before .args .n) (c .before .before .before .has-words4 .result) _ (c .if5 .taken))) returns-5 (λ c. search needs) (λ c κs. search needs) (λ c κs. search needs) returns-6 returns-7)

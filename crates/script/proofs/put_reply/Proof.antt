@@ -22,7 +22,7 @@ call-answered n bs Open h = refl
 call-answered n bs (Connect client) h = refl
 call-answered n bs (Disconnect client) h = refl
 call-answered n bs (Tick ms) h = refl
-call-answered n bs (Reading sensor r) h = refl
+call-answered n bs (Reading sensor r time) h = refl
 call-answered n bs (Log level) h = refl
 call-answered n bs (Line client) h = refl
 
