@@ -240,7 +240,7 @@ impl Generator {
         let lent = self.lent();
         let sensor = readings::sensor_place(&mut self.random, &self.session.device);
         let reading = readings::reading(&mut self.random, &self.session.device, sensor);
-        self.add(Call::Reading { lent, sensor, reading });
+        self.add(Call::Reading { lent, sensor, reading, time: None });
     }
 
     /// A client's line.
