@@ -410,6 +410,9 @@ fn generated_files_tell_what_the_device_held() {
     assert!(counts.extremes > 10_000 && counts.auto_readings > 1000 && counts.clocks > 10_000);
     assert!(counts.open.iter().all(|open| open.false_conclusions > 100), "{:?}", counts.open);
     assert!(counts.beyond_by_clock > 1000);
+    let [late, of_another_value] = counts.passed_over;
+    assert!(late.iter().all(|&readings| readings > 100), "{late:?}");
+    assert!([1, 3, 4, 5, 6].iter().all(|&strategy| of_another_value[strategy] > 20), "{of_another_value:?}");
 }
 
 /// "Float difference 0.1, last report 0.0, status alike: *102/1024 silent, *103/1024 reported."
