@@ -6,6 +6,7 @@ use model::device::{Device, Taken};
 use model::encode::encode;
 use model::generate::{script, Profile};
 use model::script::{read_entry, Call, Entry, Session};
+use model::strategy::{Difference, Rate, Report, Strategy, Subscription};
 use model::value::{Reading, State, Status, STATUSES};
 
 const LENT: usize = 65_536;
@@ -46,6 +47,29 @@ fn unknown_alone_yields_to_an_older_reading() {
                 assert_eq!((device.readings[0], &out[..]), (before, &b""[..]));
             }
         }
+    }
+}
+
+/// "An older one [...] changes nothing and causes no report, under auto too.": no pair is visited, not even one that
+/// would report. From fresh only those under auto would.
+#[test]
+fn an_older_reading_visits_no_pair() {
+    let (difference, rate) = (Difference { millionths: 0 }, Rate { shortest: 0, longest: 1 });
+    for strategy in [
+        Strategy::Auto,
+        Strategy::Event,
+        Strategy::Differential(difference),
+        Strategy::EventRate(rate),
+        Strategy::DifferentialRate(difference, rate),
+    ] {
+        let (mut device, mut out) = (holding(Status::Nominal), Vec::new());
+        let last = Some(Report { time: 0, state: State::invalid(Status::Failure) });
+        device.clients[0].as_mut().unwrap().subscriptions[0] = Subscription { strategy, last };
+        let before = (device.readings.clone(), device.clients.clone());
+        assert_eq!(device.reading(LENT, 0, Reading::Integer(7), 3999, &mut out), 0);
+        assert!(out.is_empty() && before == (device.readings.clone(), device.clients.clone()));
+        assert_eq!(device.reading(LENT, 0, Reading::Integer(7), 4000, &mut out), 0);
+        assert_eq!(&out[3..], b"#sensor-status 5.000 1 load nominal 7\n");
     }
 }
 
