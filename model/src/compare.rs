@@ -1,6 +1,7 @@
 //! Compares another program's answers with the model's, and makes the script
 //! of a difference as short as it gets.
 
+use crate::arrival::Arrival;
 use crate::generate::{self, Profile};
 use crate::readable;
 use crate::script::{read_entry, Call, Entry, Session};
@@ -45,10 +46,13 @@ fn model_answers(script: &Script, tally: &mut Tally) -> Vec<(usize, Vec<u8>)> {
 
 /// Performs a call, counts it, and gives its answer.
 fn counted_answer(session: &mut Session, call: &Call, tally: &mut Tally) -> Vec<u8> {
-    let request = request_of(call);
+    let (request, arrival) = (request_of(call), Arrival::of(&session.device, call));
     let number = session.perform(call);
     let reached = number == 0 || number >= 14;
     tally.count(call, number, request.as_ref().filter(|_| reached));
+    if let (0, Some(arrival)) = (number, &arrival) {
+        tally.count_arrival(&session.device, arrival);
+    }
     if let (0, Some(request)) = (number, &request) {
         tally.count_settings(&session.device, request);
         tally.count_names(request);

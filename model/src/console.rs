@@ -67,14 +67,16 @@ fn integer(word: &[u8]) -> Option<Option<i32>> {
 
 impl Console {
     /// Makes the call of an input line. An integer that no sensor takes is
-    /// "reading unfit for type", as a boolean of 255 is for every type.
+    /// "reading unfit for type", as a boolean of 255 is for every type. Document
+    /// 02, (g): "A reading now brings its own time [...] (the console gives the
+    /// clock)."
     fn perform(&mut self, line: &[u8]) -> u8 {
         let (device, out) = (&mut self.device, &mut self.out);
         match read_entry(line) {
             Entry::Tick(ms) => device.tick(LEAST_OUTPUT, ms, out),
             Entry::Reading(sensor, value) => {
                 let reading = value.map_or(Reading::Boolean(255), Reading::Integer);
-                device.reading(LEAST_OUTPUT, sensor, reading, out)
+                device.reading(LEAST_OUTPUT, sensor, reading, device.clock, out)
             }
             Entry::Line => device.line(LEAST_OUTPUT, 0, line, out),
         }

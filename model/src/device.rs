@@ -24,11 +24,21 @@ pub const START_LEVEL: u8 = WARN;
 /// "clients 0–7".
 pub const CLIENTS: usize = 8;
 
-/// "per sensor a reading and its time (the clock at the reading)".
+/// "per sensor a reading and its time"; document 02, (g): "A reading now brings
+/// its own time, at most the clock".
 #[derive(Clone, Copy, PartialEq, Eq, Debug)]
 pub struct Taken {
     pub time: u64,
     pub state: State,
+}
+
+impl Taken {
+    /// Document 02, (g): "It supersedes the stored one if its time is equal or
+    /// later, or if the stored status is unknown." This is the stored one; the
+    /// time is that of the reading that comes.
+    pub fn is_superseded_at(self, time: u64) -> bool {
+        time >= self.time || self.state.status == Status::Unknown
+    }
 }
 
 /// A connected client: "address text (1–48 bytes 0x21–0x7E) and, for each
@@ -40,9 +50,8 @@ pub struct Client {
 }
 
 /// "State: clock (0), halted flag (clear), log level [...], per sensor a
-/// reading and its time (the clock at the reading), clients 0–7, each
-/// unconnected (all at first) or with address text". The visits counted at its
-/// end are no part of the machine.
+/// reading and its time [...], clients 0–7, each unconnected (all at first) or
+/// with address text". The visits counted at its end are no part of the machine.
 #[derive(Clone)]
 pub struct Device {
     pub sheet: Sheet,
@@ -202,25 +211,40 @@ impl Device {
     }
 
     /// The reading call.
-    pub fn reading(&mut self, lent: usize, sensor: usize, reading: Reading, out: &mut Vec<u8>) -> u8 {
+    pub fn reading(
+        &mut self,
+        lent: usize,
+        sensor: usize,
+        reading: Reading,
+        time: u64,
+        out: &mut Vec<u8>,
+    ) -> u8 {
         out.clear();
-        number_of(self.try_reading(lent, sensor, reading, out))
+        number_of(self.try_reading(lent, sensor, reading, time, out))
     }
 
     /// "sensor not on sheet | 9", "reading unfit for type | 10"; "reading
     /// (sensor by place in the sheet, from 0): stores, then visits each
-    /// client's pair for that sensor."
+    /// client's pair for that sensor." Document 02, (g): "26, with state and
+    /// output left as they were, when the reading's time is above the clock,
+    /// tested after 10."; "An older one is accepted, changes nothing and causes
+    /// no report, under auto too."
     fn try_reading(
         &mut self,
         lent: usize,
         sensor: usize,
         reading: Reading,
+        time: u64,
         out: &mut Vec<u8>,
     ) -> Result<(), u8> {
         self.ready(lent)?;
         decline_if(sensor >= self.sheet.sensors.len(), 9)?;
         let state = value::state_of(&self.sheet.sensors[sensor], reading).ok_or(10)?;
-        self.readings[sensor] = Taken { time: self.clock, state };
+        decline_if(time > self.clock, 26)?;
+        if !self.readings[sensor].is_superseded_at(time) {
+            return Ok(());
+        }
+        self.readings[sensor] = Taken { time, state };
         for client in self.connected() {
             self.visit(client, sensor, Occasion::Reading, out);
         }
@@ -241,7 +265,8 @@ impl Device {
     }
 
     /// "A report is `#sensor-status`, clock, `1`, name, status, value."; "a
-    /// report replaces the last".
+    /// report replaces the last"; "reports still show the clock" (document 02,
+    /// (g)).
     pub(crate) fn report(&mut self, client: usize, sensor: usize, out: &mut Vec<u8>) {
         let state = self.readings[sensor].state;
         let line = Line::inform("sensor-status").with(number::time_text(self.clock));

@@ -70,17 +70,18 @@ fn with_hex(line: &str) -> Option<String> {
     Some(encoded)
 }
 
-/// The line with a float's value as its bits.
+/// The line with a float's value as its bits; its time may follow.
 fn with_bits(line: &str) -> Option<String> {
-    let Some((before, value)) = line.split_once(" float ") else {
+    let Some((before, behind)) = line.split_once(" float ") else {
         return Some(line.to_string());
     };
+    let (value, time) = behind.split_at(behind.find(' ').unwrap_or(behind.len()));
     let special = matches!(value, "nan" | "inf" | "-inf");
     if !line.starts_with("reading ") || !(value.contains('.') || special) {
         return Some(line.to_string());
     }
     let value: f64 = value.parse().ok()?;
-    Some(format!("{before} float {:016x}", value.to_bits()))
+    Some(format!("{before} float {:016x}{time}", value.to_bits()))
 }
 
 /// A quoted text with its repeats and joins, and what follows it.

@@ -1,5 +1,6 @@
 //! The files that clients wrote down while a script ran, with what the device held at the end of each call.
 
+use crate::arrival::Arrival;
 use crate::device::CLIENTS;
 use crate::script::{read_entry, Call, Entry, Session};
 use crate::sheet::Sheet;
@@ -11,8 +12,8 @@ use std::rc::Rc;
 pub struct Moment {
     pub clock: u64,
     pub readings: Vec<State>,
-    /// The sensor of the reading that the call was, if it was one and was accepted.
-    pub read: Option<usize>,
+    /// The reading that the call was, if it was one and was accepted.
+    pub read: Option<Arrival>,
 }
 
 /// A call during a connection, from the connect that opened it to the call that ended it.
@@ -57,6 +58,7 @@ pub fn files(script: &[Vec<u8>]) -> Vec<File> {
 impl Recorder {
     /// Performs a call and writes down what it gave. An `open` ends all files: another device begins.
     fn perform(&mut self, call: &Call) {
+        let arrival = Arrival::of(&self.session.device, call);
         let number = self.session.perform(call);
         match call {
             Call::Open { .. } => {
@@ -68,11 +70,7 @@ impl Recorder {
             _ => {}
         }
         self.write_down();
-        let read = match call {
-            Call::Reading { sensor, .. } if number == 0 => Some(*sensor as usize),
-            _ => None,
-        };
-        self.end_call(read);
+        self.end_call(arrival.filter(|_| number == 0));
     }
 
     /// A connect that returned 0 begins a file.
@@ -93,7 +91,7 @@ impl Recorder {
     }
 
     /// The end of a call in each file; a client that is forgotten has its file ended.
-    fn end_call(&mut self, read: Option<usize>) {
+    fn end_call(&mut self, read: Option<Arrival>) {
         let device = &self.session.device;
         let readings = device.readings.iter().map(|taken| taken.state).collect();
         let end = Rc::new(Moment { clock: device.clock, readings, read });

@@ -6,6 +6,7 @@
 //! them, and compares another program's answers with the model's; a planner's
 //! reader of one client's file is compared with what the device held.
 
+pub mod arrival;
 pub mod compare;
 pub mod console;
 pub mod device;

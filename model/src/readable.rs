@@ -1,7 +1,7 @@
 //! Calls and answers with their texts decoded, for people to read.
 
 use crate::number;
-use crate::script::{read_entry, Call, Entry};
+use crate::script::{read_entry, time_word, Call, Entry};
 use crate::sheet::{Kind, Sheet};
 use crate::value::Reading;
 use std::fmt::Write;
@@ -44,8 +44,8 @@ fn call_text(call: &Call) -> String {
             format!("{verb} {lent} {level} {} {}", quoted(logger), quoted(message))
         }
         Call::Line { lent, client, line } => format!("{verb} {lent} {client} {}", quoted(line)),
-        Call::Reading { lent, sensor, reading: Reading::Float(value) } => {
-            format!("{verb} {lent} {sensor} float {value:?}")
+        Call::Reading { lent, sensor, reading: Reading::Float(value), time } => {
+            format!("{verb} {lent} {sensor} float {value:?}{}", time_word(*time))
         }
         _ => call.text(),
     }

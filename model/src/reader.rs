@@ -138,7 +138,8 @@ fn decimal(text: &[u8], places: usize) -> Option<i64> {
     Some(sign * digits.parse::<i64>().ok()?)
 }
 
-/// What is concluded of a sensor's present reading.
+/// What is concluded of a sensor's present reading: document 02, (g), "the last that superseded the one stored
+/// before it".
 #[derive(Clone, Copy, PartialEq, Eq, Debug)]
 pub enum Conclusion {
     Nothing,

@@ -215,7 +215,8 @@ impl Device {
     }
 
     /// "`sensor-value [name]`: one inform per sensor, reading's time, `1`,
-    /// name, status, value."
+    /// name, status, value."; "`sensor-value` shows the reading's own time"
+    /// (document 02, (g)).
     fn sensor_value(&mut self, asked: &mut Asked) -> Result<(), Refusal> {
         let wanted = self.wanted_sensors(asked)?;
         for &place in &wanted {

@@ -7,14 +7,15 @@ use std::io::{self, BufRead, Write};
 /// The longest line of a script.
 pub const LONGEST: usize = 65_536;
 
-/// A call of a script.
+/// A call of a script. A reading whose time is left out has the clock of the
+/// device at hand.
 #[derive(Clone, PartialEq, Debug)]
 pub enum Call {
     Open { sheet: Vec<u8> },
     Connect { lent: u64, client: u64, address: Vec<u8> },
     Disconnect { lent: u64, client: u64 },
     Tick { lent: u64, ms: u64 },
-    Reading { lent: u64, sensor: u64, reading: Reading },
+    Reading { lent: u64, sensor: u64, reading: Reading, time: Option<u64> },
     Log { lent: u64, level: u8, logger: Vec<u8>, message: Vec<u8> },
     Line { lent: u64, client: u64, line: Vec<u8> },
 }
@@ -53,10 +54,11 @@ fn read_call(line: &[u8]) -> Option<Call> {
             Some(Call::Disconnect { lent: unsigned(lent)?, client: unsigned(client)? })
         }
         [b"tick", lent, ms] => Some(Call::Tick { lent: unsigned(lent)?, ms: unsigned(ms)? }),
-        [b"reading", lent, sensor, kind, value] => Some(Call::Reading {
+        [b"reading", lent, sensor, kind, value, ref time @ ..] => Some(Call::Reading {
             lent: unsigned(lent)?,
             sensor: unsigned(sensor)?,
             reading: read_reading(kind, value)?,
+            time: optional_time(time)?,
         }),
         [b"log", lent, level, logger, message] => Some(Call::Log {
             lent: unsigned(lent)?,
@@ -82,6 +84,16 @@ fn read_reading(kind: &[u8], value: &[u8]) -> Option<Reading> {
         b"failure" if value == b"-" => Some(Reading::Failure),
         b"unreachable" if value == b"-" => Some(Reading::Unreachable),
         b"inactive" if value == b"-" => Some(Reading::Inactive),
+        _ => None,
+    }
+}
+
+/// A reading's time, which may be left out. The outer option is empty where the
+/// words behind the value are no time, or more than one.
+fn optional_time(words: &[&[u8]]) -> Option<Option<u64>> {
+    match words {
+        [] => Some(None),
+        [time] => unsigned(time).map(Some),
         _ => None,
     }
 }
@@ -188,8 +200,8 @@ impl Call {
             Call::Connect { lent, client, address } => format!("{verb} {lent} {client} {}", hex(address)),
             Call::Disconnect { lent, client } => format!("{verb} {lent} {client}"),
             Call::Tick { lent, ms } => format!("{verb} {lent} {ms}"),
-            Call::Reading { lent, sensor, reading } => {
-                format!("{verb} {lent} {sensor} {}", reading_text(*reading))
+            Call::Reading { lent, sensor, reading, time } => {
+                format!("{verb} {lent} {sensor} {}{}", reading_text(*reading), time_word(*time))
             }
             Call::Log { lent, level, logger, message } => {
                 format!("{verb} {lent} {level} {} {}", hex(logger), hex(message))
@@ -211,6 +223,11 @@ fn reading_text(reading: Reading) -> String {
         Reading::Unreachable => "unreachable -".to_string(),
         Reading::Inactive => "inactive -".to_string(),
     }
+}
+
+/// A reading's time as its call's last word, or nothing where it is left out.
+pub fn time_word(time: Option<u64>) -> String {
+    time.map_or_else(String::new, |time| format!(" {time}"))
 }
 
 /// A device answering a script; before the first `open` it is the blank one.
@@ -236,8 +253,9 @@ impl Session {
             }
             Call::Disconnect { lent, client } => device.disconnect(lend(*lent), *client as usize, out),
             Call::Tick { lent, ms } => device.tick(lend(*lent), *ms, out),
-            Call::Reading { lent, sensor, reading } => {
-                device.reading(lend(*lent), *sensor as usize, *reading, out)
+            Call::Reading { lent, sensor, reading, time } => {
+                let time = time.unwrap_or(device.clock);
+                device.reading(lend(*lent), *sensor as usize, *reading, time, out)
             }
             Call::Log { lent, level, logger, message } => {
                 device.log(lend(*lent), *level, logger, message, out)

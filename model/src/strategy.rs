@@ -73,7 +73,8 @@ impl Subscription {
     pub const START: Subscription = Subscription { strategy: Strategy::None, last: None };
 }
 
-/// The two calls that visit pairs.
+/// The two calls that visit pairs; a reading that is older than the stored one
+/// "causes no report, under auto too" (document 02, (g)) and visits none.
 #[derive(Clone, Copy, PartialEq, Eq, Debug)]
 pub enum Occasion {
     Reading,

@@ -1,5 +1,6 @@
-//! What came up in a run: numbers, calls, requests, visits, statuses.
+//! What came up in a run: numbers, calls, readings, requests, visits, statuses.
 
+use crate::arrival::Arrival;
 use crate::device::Device;
 use crate::message::{Message, Sort};
 use crate::requests::REQUESTS;
@@ -39,7 +40,7 @@ impl Visits {
 #[derive(Default)]
 pub struct Tally {
     pub scripts: u64,
-    pub numbers: [u64; 24],
+    pub numbers: [u64; 27],
     pub errors: u64,
     pub calls: BTreeMap<&'static str, u64>,
     pub requests: BTreeMap<(String, u8), u64>,
@@ -47,6 +48,11 @@ pub struct Tally {
     /// Lists of `sensor-list` and `sensor-value` that were answered, by the count of their names.
     pub lists: BTreeMap<usize, u64>,
     pub visits: Visits,
+    /// Accepted readings by status: later than the stored one, at the clock or below it; at the stored one's
+    /// time, likewise; passed over.
+    pub arrivals: [[u64; 5]; 7],
+    /// Pairs by strategy that a reading left unvisited, since it was passed over.
+    pub unvisited: [u64; 7],
 }
 
 impl Tally {
@@ -58,6 +64,19 @@ impl Tally {
             let name = String::from_utf8_lossy(&message.name).into_owned();
             let shown = if REQUESTS.contains(&&name[..]) { name } else { "(any other)".to_string() };
             *self.requests.entry((shown, number)).or_default() += 1;
+        }
+    }
+
+    /// Counts a reading that was accepted.
+    pub fn count_arrival(&mut self, device: &Device, arrival: &Arrival) {
+        let at_its_time = usize::from(arrival.time == arrival.stored.time);
+        let below = usize::from(arrival.time < arrival.clock);
+        let column = if arrival.supersedes() { 2 * at_its_time + below } else { 4 };
+        self.arrivals[arrival.state.status as usize][column] += 1;
+        if !arrival.supersedes() {
+            for client in device.connected() {
+                self.unvisited[device.subscription(client, arrival.sensor).strategy.place()] += 1;
+            }
         }
     }
 
@@ -100,6 +119,7 @@ impl Tally {
             format!("{} scripts, {} calls, {} lines that are no call.\n", self.scripts, calls, self.errors);
         self.write_numbers(&mut text);
         self.write_calls(&mut text);
+        self.write_arrivals(&mut text);
         self.write_visits(&mut text);
         self.write_settings(&mut text);
         self.write_statuses(&mut text);
@@ -108,10 +128,11 @@ impl Tally {
         text
     }
 
-    /// "Every row returns its number".
+    /// "Every row returns its number"; no call of a script reaches 1, 24 and 25.
     fn write_numbers(&self, text: &mut String) {
         table(text, &["number", "times"]);
-        for (number, times) in self.numbers.iter().enumerate().filter(|(number, _)| *number != 1) {
+        let reached = |number: &usize| ![1, 24, 25].contains(number);
+        for (number, times) in self.numbers.iter().enumerate().filter(|(number, _)| reached(number)) {
             row(text, &[number.to_string(), times.to_string()]);
         }
         row(text, &["error".to_string(), self.errors.to_string()]);
@@ -125,12 +146,25 @@ impl Tally {
         }
     }
 
+    /// Accepted readings by status, which is never unknown, and by time.
+    fn write_arrivals(&self, text: &mut String) {
+        let heads = ["later, at the clock", "later, below", "same time, at the clock", "same time, below"];
+        table(text, &[&["reading"], &heads[..], &["passed over"]].concat());
+        for (status, counts) in STATUSES.iter().zip(self.arrivals).skip(1) {
+            let mut cells = vec![status.text().to_string()];
+            cells.extend(counts.iter().map(u64::to_string));
+            row(text, &cells);
+        }
+    }
+
     /// Visits by strategy.
     fn write_visits(&self, text: &mut String) {
-        table(text, &["strategy", "reading: silent", "reading: report", "tick: silent", "tick: report"]);
-        for (name, counts) in NAMES.iter().zip(self.visits.by_strategy) {
+        let heads = ["reading: silent", "reading: report", "tick: silent", "tick: report"];
+        table(text, &[&["strategy"], &heads[..], &["reading: passed over"]].concat());
+        for (place, (name, counts)) in NAMES.iter().zip(self.visits.by_strategy).enumerate() {
             let mut cells = vec![name.to_string()];
             cells.extend(counts.iter().map(u64::to_string));
+            cells.push(self.unvisited[place].to_string());
             row(text, &cells);
         }
     }

@@ -3,12 +3,14 @@
 //!
 //! - what the lines tell of a sensor's present reading, by its strategy (`Reader::conclusion`), holds at the
 //!   end of every call during the connection;
-//! - under differential the extremes of the reports bound those of the readings;
-//! - under auto each accepted reading is one line more, and no other call but a setting gives a report;
+//! - under differential the extremes of the reports bound those of the readings that superseded;
+//! - under auto each reading that superseded is one line more, and no other call but a setting gives a report;
+//! - a reading that came late and was passed over (document 02, (g)) gives no line and is in no bound;
 //! - the clocks that lines show never go back, and each is the clock at the end of its call;
 //! - of a file that is cut anywhere, what is concluded from the lines up to one of them holds at the end of
 //!   the call that gave it, unless that line leaves it open.
 
+use crate::arrival::Arrival;
 use crate::files::{files, File, Moment, Step};
 use crate::generate::{self, Profile};
 use crate::readable;
@@ -55,9 +57,11 @@ pub struct Counts {
     pub held_back: [u64; 2],
     /// Extremes under differential that were compared.
     pub extremes: u64,
-    /// Accepted readings under auto, and other calls under auto.
+    /// Readings that superseded under auto, and other calls under auto.
     pub auto_readings: u64,
     pub auto_others: u64,
+    /// By strategy: readings that were passed over, and those of which what the lines tell is false.
+    pub passed_over: [[u64; 7]; 2],
     /// Lines that show a clock.
     pub clocks: u64,
     /// Cuts at which the reader concludes: with the next line seen, without.
@@ -75,8 +79,8 @@ struct Check<'a> {
     file: &'a File,
     told: Vec<Told>,
     reader: Reader,
-    /// By sensor: the strategy at the last end of a call, and the extremes of the valid readings since it is
-    /// that.
+    /// By sensor: the strategy at the last end of a call, and the extremes of the valid readings that the device
+    /// held since it is that.
     readings: Vec<(Strategy, Option<Extremes>)>,
     counts: &'a mut Counts,
 }
@@ -114,6 +118,7 @@ pub fn check_file(file: &File, counts: &mut Counts) -> Result<(), String> {
 impl Check<'_> {
     /// A call: its lines one by one, then its end.
     fn step(&mut self, step: &Step, lines: Range<usize>) -> Result<(), String> {
+        self.present(&step.end, &lines)?;
         for sensor in 0..self.reader.sensors.len() {
             self.under_auto(sensor, &step.end, lines.clone())?;
         }
@@ -130,8 +135,34 @@ impl Check<'_> {
         }
     }
 
-    /// "each reading since the strategy was set is a line", and no line of the sensor is anything else,
-    /// but for the report that answers a setting.
+    /// "the present reading meaning the last that superseded the one stored before it" (document 02, (g)); one that
+    /// was passed over is in no file.
+    fn present(&mut self, end: &Moment, lines: &Range<usize>) -> Result<(), String> {
+        let Some(read) = end.read else {
+            return Ok(());
+        };
+        let late = !read.supersedes();
+        let (held, present) = (end.readings[read.sensor], if late { read.stored.state } else { read.state });
+        if held != present || late && !lines.is_empty() {
+            return Err(format!("{read:?}: held {held:?}, told {:?}", &self.told[lines.clone()]));
+        }
+        if late {
+            self.count_passed_over(&read);
+        }
+        Ok(())
+    }
+
+    /// Counts a reading that was passed over, and whether what the lines tell would be false of it.
+    fn count_passed_over(&mut self, late: &Arrival) {
+        let strategy = self.reader.sensors[late.sensor].strategy.place();
+        let conclusion = self.reader.conclusion(late.sensor, late.clock);
+        let holds = conclusion.holds(self.file.sheet.sensors[late.sensor].kind, late.state);
+        self.counts.passed_over[0][strategy] += 1;
+        self.counts.passed_over[1][strategy] += u64::from(!holds);
+    }
+
+    /// Each reading that superseded since the strategy was set is a line, and no line of the sensor is anything
+    /// else, but for the report that answers a setting.
     fn under_auto(&mut self, sensor: usize, end: &Moment, lines: Range<usize>) -> Result<(), String> {
         if self.reader.sensors[sensor].strategy != Strategy::Auto {
             return Ok(());
@@ -140,7 +171,8 @@ impl Check<'_> {
         let report = Report { time: end.clock, state: end.readings[sensor] };
         let is_its_report = |line: &Told| matches!(line, Told::Report { sensor: of, .. } if *of == sensor);
         let sampled = told.iter().any(|line| matches!(line, Told::Sampling { .. }));
-        let right = if end.read == Some(sensor) {
+        let superseded = end.read.is_some_and(|read| read.sensor == sensor && read.supersedes());
+        let right = if superseded {
             self.counts.auto_readings += 1;
             told == [Told::Report { sensor, report }]
         } else {
@@ -282,8 +314,8 @@ impl Check<'_> {
         (0..pairs.len()).try_for_each(|sensor| self.extremes(sensor, end))
     }
 
-    /// Under differential no valid reading since it was set went further beyond the valid reports than the
-    /// difference.
+    /// Under differential no valid reading that superseded since it was set went further beyond the valid reports
+    /// than the difference.
     fn extremes(&mut self, sensor: usize, end: &Moment) -> Result<(), String> {
         let Known { strategy, extremes: reports, .. } = self.reader.sensors[sensor];
         let (before, earlier) = self.readings[sensor];
@@ -374,9 +406,11 @@ impl Counts {
             NAMES.join(" | "),
             "---|".repeat(NAMES.len() + 1)
         );
-        for (place, counts) in PLACES.iter().zip(self.conclusions) {
+        let passed_over = ["readings passed over", "of which what is told is false"];
+        let rows = PLACES.iter().zip(self.conclusions).chain(passed_over.iter().zip(self.passed_over));
+        for (name, counts) in rows {
             let cells: Vec<String> = counts.iter().map(u64::to_string).collect();
-            writeln!(text, "| {place} | {} |", cells.join(" | ")).expect("text");
+            writeln!(text, "| {name} | {} |", cells.join(" | ")).expect("text");
         }
         self.write_others(&mut text);
         self.write_cuts(&mut text);
@@ -390,7 +424,7 @@ impl Counts {
             ("rates, shortest period not passed by the device's clock", by_device),
             ("the same by the lines' clock", by_lines),
             ("extremes under differential", self.extremes),
-            ("readings under auto", self.auto_readings),
+            ("readings that superseded under auto", self.auto_readings),
             ("other calls under auto", self.auto_others),
             ("clocks", self.clocks),
         ];

@@ -19,6 +19,7 @@ const BY_HAND: &[(&str, &str)] = &[
     ("sampling", include_str!("../vectors/sampling.txt")),
     ("differences", include_str!("../vectors/differences.txt")),
     ("others", include_str!("../vectors/others.txt")),
+    ("late", include_str!("../vectors/late.txt")),
     ("guideline", include_str!("../vectors/guideline.txt")),
     ("script", include_str!("../vectors/script.txt")),
 ];

@@ -56,8 +56,10 @@ impl Unit {
         lines(&self.out)
     }
 
+    /// A reading at the clock.
     fn give(&mut self, reading: Reading) -> String {
-        assert_eq!(self.device.reading(LENT, 0, reading, &mut self.out), 0);
+        let clock = self.device.clock;
+        assert_eq!(self.device.reading(LENT, 0, reading, clock, &mut self.out), 0);
         lines(&self.out)
     }
 
@@ -177,6 +179,6 @@ fn floats_written() {
         );
     }
     for value in [f64::NAN, f64::INFINITY, 1.0 / 2048.0, 1_048_576.0 + 1.0 / 1024.0, 5e-324] {
-        assert_eq!(unit.device.reading(LENT, 0, Reading::Float(value), &mut unit.out), 10);
+        assert_eq!(unit.device.reading(LENT, 0, Reading::Float(value), 0, &mut unit.out), 10);
     }
 }

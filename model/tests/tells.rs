@@ -1,4 +1,4 @@
-//! What a client's file tells, on the model: four written files cut at every line, with what may be concluded
+//! What a client's file tells, on the model: five written files cut at every line, with what may be concluded
 //! written out by hand, and generated ones.
 
 use model::encode::encode;
@@ -281,6 +281,71 @@ fn a_peak_that_comes_and_goes_unseen() {
     assert_eq!(text(&written(&differential).0), PEAK_FILE_DIFFERENTIAL);
 }
 
+const LATE: &str = "sheet lgu-1.0 b7
+sensor load \"\" kg integer 0 1000
+sensor door \"\" \"\" boolean
+open
+connect 65536 0 \"planner\"
+tick 65536 5000
+reading 65536 0 integer 80 4000
+line 65536 0 \"?sensor-sampling load differential 25\"
+reading 65536 0 integer 640 3999
+reading 65536 1 boolean 1 4500
+line 65536 0 \"?sensor-sampling door auto\"
+reading 65536 1 boolean 0 4499
+reading 65536 1 failure - 0
+reading 65536 1 boolean 0 4500
+tick 65536 6000
+reading 65536 0 integer 105 4000
+log 65536 3 \"lift\" \"Door closed.\"
+";
+
+const LATE_FILE: &str = "#version-connect katcp-protocol 5.1-MIB
+#version-connect katcp-device lgu-1.0 b7
+!sensor-sampling ok load differential 25
+#sensor-status 5.000 1 load nominal 80
+!sensor-sampling ok door auto
+#sensor-status 5.000 1 door nominal 1
+#sensor-status 5.000 1 door nominal 0
+#log warn 6.000 lift Door\\_closed.
+";
+
+/// Document 02, (g): readings that came late leave no trace, under auto too, and what the file tells is not of them.
+#[test]
+fn readings_that_came_late_are_in_no_file() {
+    let (file, counts) = written(LATE);
+    assert_eq!(text(&file), LATE_FILE);
+    let (nothing, load) = ("load: nothing; door: nothing", "load: nominal 80, within 25; door: nothing");
+    assert_cuts(
+        &file,
+        &[
+            (nothing, nothing),
+            (nothing, nothing),
+            ("open", "open"),
+            ("open", load),
+            ("open", "open"),
+            ("open", "open"),
+            ("open", "load: nominal 80, within 25; door: nominal 0"),
+            ("load: nominal 80, within 25; door: nominal 0", ""),
+        ],
+    );
+    assert_eq!(counts.auto_readings, 1);
+    assert_eq!(counts.passed_over, [[0, 2, 0, 0, 1, 0, 0]; 2]);
+    let late = [
+        "reading 65536 0 integer 640 3999\n",
+        "reading 65536 1 boolean 0 4499\n",
+        "reading 65536 1 failure - 0\n",
+    ];
+    let mut without = LATE.to_string();
+    for reading in late {
+        assert!(without.contains(reading));
+        without = without.replace(reading, "");
+    }
+    assert_eq!(text(&written(&without).0), LATE_FILE);
+    let in_time = LATE.replace("640 3999", "640 4000");
+    assert!(text(&written(&in_time).0).contains("#sensor-status 5.000 1 load nominal 640\n"));
+}
+
 const COUNTED: &str = "sheet lgu-1.0 b7
 sensor b \"\" \"\" integer
 open
@@ -291,7 +356,7 @@ line 65536 0 \"?sensor-sampling b\"
 reading 65536 0 integer 10
 ";
 
-/// Under auto each reading is a line, but a report behind a sampling reply need not be a reading: a query
+/// Under auto each reading that superseded is a line, but a report behind a sampling reply need not be a reading: a query
 /// with a reading behind it looks like a setting.
 #[test]
 fn a_query_and_a_setting_look_alike() {
@@ -345,6 +410,9 @@ fn generated_files_tell_what_the_device_held() {
     assert!(counts.extremes > 10_000 && counts.auto_readings > 1000 && counts.clocks > 10_000);
     assert!(counts.open.iter().all(|open| open.false_conclusions > 100), "{:?}", counts.open);
     assert!(counts.beyond_by_clock > 1000);
+    let [late, of_another_value] = counts.passed_over;
+    assert!(late.iter().all(|&readings| readings > 100), "{late:?}");
+    assert!([1, 3, 4, 5, 6].iter().all(|&strategy| of_another_value[strategy] > 20), "{of_another_value:?}");
 }
 
 /// "Float difference 0.1, last report 0.0, status alike: *102/1024 silent, *103/1024 reported."

@@ -1,6 +1,7 @@
 //! Random scripts. The model runs along, so that calls meet the state they are
 //! made in: ticks when something is due, readings near the last report.
 
+mod bursts;
 mod differences;
 mod lines;
 pub mod others;
@@ -11,6 +12,7 @@ mod sheets;
 use crate::device::Device;
 use crate::random::Random;
 use crate::script::{Call, Session};
+use bursts::Burst;
 
 /// How large the scripts and their answers may be.
 #[derive(Clone, Copy)]
@@ -88,6 +90,27 @@ const BAD_CALLS: &[&str] = &[
     "reading 65536 0 discrete 0",
     "reading 65536 0 timestamp -1",
     "reading 65536 0  1",
+    "reading 65536 0 integer 1 18446744073709551616",
+    "reading 65536 0 integer 1 100000000000000000000",
+    "reading 65536 0 integer 1 -1",
+    "reading 65536 0 integer 1 -0",
+    "reading 65536 0 integer 1 +1",
+    "reading 65536 0 integer 1 00",
+    "reading 65536 0 integer 1 007",
+    "reading 65536 0 integer 1 1.0",
+    "reading 65536 0 integer 1 0x10",
+    "reading 65536 0 integer 1 now",
+    "reading 65536 0 integer 1 -",
+    "reading 65536 0 integer 1 ",
+    "reading 65536 0 integer 1  0",
+    "reading 65536 0 integer 1 0 ",
+    "reading 65536 0 integer 1 0 0",
+    "reading 65536 0 float 3ff0000000000000 0.000",
+    "reading 65536 0 failure 0 0",
+    "reading 65536 0 failure - -",
+    "reading 65536 0 inactive - 0 0",
+    "reading 65536 0 unreachable 0",
+    "reading 65536 0 unknown - 0",
     "log 65536 256 61 61",
     "log 65536 4 61",
     "log 65536 4 61 6",
@@ -117,6 +140,7 @@ struct Generator {
     session: Session,
     profile: Profile,
     lines: Vec<Vec<u8>>,
+    burst: Option<Burst>,
 }
 
 /// A random script: its lines without their ends. It begins with an `open`.
@@ -132,7 +156,8 @@ pub fn script(seed: u64, profile: Profile) -> Vec<Vec<u8>> {
 impl Generator {
     /// Before its first call.
     fn new(seed: u64, profile: Profile) -> Generator {
-        Generator { random: Random::new(seed), session: Session::default(), profile, lines: Vec::new() }
+        let (random, session) = (Random::new(seed), Session::default());
+        Generator { random, session, profile, lines: Vec::new(), burst: None }
     }
 
     /// The device as it is after the calls so far.
@@ -154,6 +179,9 @@ impl Generator {
         if self.device().connected().is_empty() && self.random.chance(700) {
             return self.connect();
         }
+        if self.random.chance(800) && self.go_on_with_burst() {
+            return;
+        }
         match self.random.below(1000) {
             0..=239 => self.tick(),
             240..=529 => self.reading(),
@@ -167,8 +195,9 @@ impl Generator {
         }
     }
 
-    /// A sheet: good mostly.
+    /// A sheet: good mostly. A burst ends with its device.
     fn open(&mut self) {
+        self.burst = None;
         let sheet = if self.random.chance(300) && !self.lines.is_empty() {
             sheets::broken(&mut self.random, &self.profile)
         } else {
@@ -235,12 +264,16 @@ impl Generator {
         self.add(Call::Tick { lent, ms });
     }
 
-    /// A reading.
+    /// A reading, or the begin of a burst of them.
     fn reading(&mut self) {
         let lent = self.lent();
         let sensor = readings::sensor_place(&mut self.random, &self.session.device);
+        if self.random.chance(70) {
+            return self.begin_burst(sensor as usize);
+        }
         let reading = readings::reading(&mut self.random, &self.session.device, sensor);
-        self.add(Call::Reading { lent, sensor, reading });
+        let time = readings::time(&mut self.random, &self.session.device, sensor, reading);
+        self.add(Call::Reading { lent, sensor, reading, time });
     }
 
     /// A client's line.

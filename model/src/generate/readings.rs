@@ -5,7 +5,7 @@ use crate::number::LAST_TIME;
 use crate::random::Random;
 use crate::sheet::{Kind, Sensor};
 use crate::strategy::{Strategy, Subscription};
-use crate::value::Reading;
+use crate::value::{state_of, Reading};
 
 const BAD_FLOATS: &[u64] = &[
     0x7ff0_0000_0000_0000, // infinity
@@ -136,6 +136,29 @@ fn drifted(random: &mut Random, device: &Device, place: usize) -> i64 {
     } else {
         last - away
     }
+}
+
+/// A reading's own time: left out mostly, else the clock, around the stored one's, or anywhere between or
+/// below; above the clock at times, and oftener where the reading is declined anyway.
+pub fn time(random: &mut Random, device: &Device, place: u64, reading: Reading) -> Option<u64> {
+    let clock = device.clock;
+    let sensor = device.sheet.sensors.get(place as usize);
+    if sensor.and_then(|sensor| state_of(sensor, reading)).is_none() {
+        return random.pick(&[None, Some(0), Some(clock), Some(clock + 1), Some(u64::MAX)]);
+    }
+    let stored = device.readings[place as usize].time;
+    Some(match random.below(1000) {
+        0..=499 => return None,
+        500..=579 => clock,
+        580..=609 => clock + 1,
+        610..=629 => random.pick(&[u64::MAX, 1 << 63, LAST_TIME + 1, LAST_TIME, clock + 1000]),
+        630..=699 => stored,
+        700..=759 => stored.saturating_sub(1),
+        760..=809 => clock.min(stored + 1),
+        810..=819 => 0,
+        820..=849 => random.below(stored + 1),
+        _ => stored + random.below(clock - stored + 1),
+    })
 }
 
 /// A time to tick to: due for some pair, one before or one after; else a
