@@ -5,7 +5,7 @@ use mathlib.Core.Path.{_≡_, refl, ap, sym, _∙_, subst}
 use mathlib.Core.Bool.{Bool, true, false, cond, not, true≢false}
 use mathlib.Core.List.{List, [], _∷_, map}
 use mathlib.Core.Option.{Option, none, some}
-use lib.Dec.{eqb, ltb}
+use lib.Dec.{eqb, leb, ltb}
 use lib.ListN.{length}
 use borrow.Author.Tests.{le-leb, le-ltb}
 use Rattle.message.specs.Delivery.{packet}
@@ -15,16 +15,19 @@ use Rattle.value.specs.Answer.{sampledNumber}
 use Rattle.machine.specs.declared.State.{State}
 use Rattle.machine.specs.Places.{isZero}
 use Rattle.machine.specs.Sheet.{sensorOf, notOnSheet}
-use Rattle.machine.specs.State.{storedOf}
+use Rattle.machine.specs.State.{storedOf, present, supersedes}
 use Rattle.machine.specs.Range.{inRange}
+use Rattle.machine.specs.Messages.{statusFor}
+use Rattle.machine.specs.Report.{Work}
 use Rattle.machine.specs.Declined.{Arrival, arrival, Reading, Call, callOf, rowsBehind, readingDeclined, actionDeclined, declined, refusal}
 use Rattle.machine.specs.Machine.{Effect, step, storedGiven}
 use Rattle.machine.specs.TwoDevices.{after, sheetOf, returnedZero, packetsOf, superseding, lastReading, timeFrom, clockOf}
 use Rattle.machine.specs.LateReadings.{Newer, Older, readingStep, LateReadings}
-use Rattle.machine.proofs.TestLaws.{cond-true, not-none, eqb-refl}
+use Rattle.machine.proofs.TestLaws.{or-in, cond-true, not-none, eqb-refl}
 use Rattle.machine.proofs.RangeLaws as range
-use Rattle.machine.proofs.RangeLaws.{range-out}
-use Rattle.machine.proofs.StepLaws.{by-cases, accepted, reading-fits}
+use Rattle.machine.proofs.RangeLaws.{range-out, sensors-of}
+use Rattle.machine.proofs.StepLaws.{by-cases, accepted, reading-fits, by-superseding}
+use Rattle.machine.proofs.SampleRange.{unknown-kind}
 use Rattle.machine.proofs.KeptInRange.{after-in-range}
 use Rattle.machine.proofs.SupersedingLaws.{stored-next}
 use Rattle.machine.proofs.ListLaws.{sheet-is, clock-is, stored-is, by-newer, sent-packets}
@@ -62,6 +65,21 @@ refused-left : (s : State) (j : ℕ) (g : Given) (t : ℕ) (lent : List ℕ) →
     → (readingStep s j g t lent .sent ≡ []) × (readingStep s j g t lent .next ≡ s)
 unfolding refusal
 refused-left s j g t lent = by-cases (λ (e : Effect). (e .number ≡ 0 → ⊥) → (e .sent ≡ []) × (e .next ≡ s)) s (callOf (Reading j (arrival g t)) lent) (λ _ h. absurd (h refl)) (λ n _ h. (refl, refl))
+
+unknown-yields : (s : State) (j : ℕ) (g : Given) (t : ℕ) (lent : List ℕ) → readingStep s j g t lent .number ≡ 0 → statusFor (sensorOf (s .sheet) j) (present s j) ≡ 0
+    → storedOf (readingStep s j g t lent .next) j ≡ storedGiven (sensorOf (s .sheet) j) (arrival g t)
+unfolding supersedes
+unknown-yields s j g t lent z u = by-cases (λ (e : Effect). e .number ≡ 0 → storedOf (e .next) j ≡ storedGiven (sensorOf (s .sheet) j) (arrival g t)) s call
+    (λ d _. by-superseding (λ (w : Work). storedOf (w .next) j ≡ storedGiven (sensorOf (s .sheet) j) (arrival g t)) (s .sheet) s j (arrival g t)
+    (λ _. stored-next s j j (place d) (arrival g t) ∙ cond-true (eqb j j) _ _ (eqb-refl j))
+    (λ e. absurd (true≢false (sym (or-in (leb (storedOf s j .time) t) (eqb (present s j .kind) 0) (unknown-kind (sensorOf (s .sheet) j) (present s j) u)) ∙ e))))
+    (λ n _ e. absurd (omega (arith, e))) z
+  where
+    call : Call
+    call = callOf (Reading j (arrival g t)) lent
+
+    place : declined (s .sheet) s call ≡ 0 → j < 32
+    place d = let a = accepted s call d in omega (arith, reading-fits s j (arrival g t) (a .fits) .on-sheet, sensors-of s (range-out s (a .in-range)) .count-most)
 
 -- Over a list of calls.
 
@@ -112,6 +130,7 @@ pub late-readings : LateReadings
 late-readings = record {
   ahead = row-ahead;
   left-as-it-was = refused-left;
+  unknown-yields = unknown-yields;
   passed-over = λ bytes j r lent h o. passed-over bytes j r lent h o;
   stored = λ bytes j r lent h o. stored bytes j r lent h o;
   never-ahead = λ bytes j hs h. never-ahead bytes j hs h;

@@ -81,6 +81,21 @@ status-most n x = go (eqb (x .kind) 0) (eqb (x .kind) 1) (eqb (x .kind) 2) (eqb 
     go false false false true = omega arith
     go false false false false = omega arith
 
+-- no other kind than 0 has the status unknown
+pub unknown-kind : (n : Sensor) (x : Sample) → statusFor n x ≡ 0 → eqb (x .kind) 0 ≡ true
+unfolding statusOf
+unknown-kind n x = go (eqb (x .kind) 0) (eqb (x .kind) 1) (eqb (x .kind) 2) (eqb (x .kind) 3)
+  where
+    r : 1 ≤ rangeStatus (n .limits) (x .number)
+    r = range-valid (n .limits) (x .number) .0
+
+    go : (a b c d : Bool) → cond a 0 (cond b (rangeStatus (n .limits) (x .number)) (cond c 4 (cond d 5 6))) ≡ 0 → a ≡ true
+    go true b c d e = refl
+    go false true c d e = absurd (omega (arith, r, e))
+    go false false true d e = absurd (omega (arith, e))
+    go false false false true e = absurd (omega (arith, e))
+    go false false false false e = absurd (omega (arith, e))
+
 -- a sample is valid exactly where its status is
 pub valid-is : (n : Sensor) (x : Sample) → isValid x ≡ validStatus (statusFor n x)
 unfolding statusOf

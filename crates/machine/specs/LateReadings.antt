@@ -7,7 +7,8 @@ use lib.Dec.{ltb}
 use Rattle.value.specs.declared.Reading.{Reading as Given}
 use Rattle.machine.specs.declared.State.{State}
 use Rattle.machine.specs.Sheet.{sensorOf}
-use Rattle.machine.specs.State.{storedOf}
+use Rattle.machine.specs.State.{storedOf, present}
+use Rattle.machine.specs.Messages.{statusFor}
 use Rattle.machine.specs.Declined.{Arrival, arrival, Reading, Call, callOf, rowsBehind}
 use Rattle.machine.specs.Machine.{Effect, step, storedGiven}
 use Rattle.machine.specs.TwoDevices.{after, sheetOf, returnedZero, packetsOf, superseding, lastReading, timeFrom, clockOf}
@@ -28,6 +29,7 @@ readingStep s j g t lent = step s (callOf (Reading j (arrival g t)) lent)
 
 -- `ahead`: "26 .. when the reading's time is above the clock, tested after 10": behind the rows that decline this reading whatever its time.
 -- `left-as-it-was`: "with state and output left as they were", as at every row of this call.
+-- `unknown-yields`: it supersedes "if the stored status is unknown", 0 in Table 8, in every state, whatever the times.
 -- `passed-over`: "An older one is accepted, changes nothing and causes no report, under auto too": no delivery at all.
 -- `stored`: one that supersedes is stored, with its own time.
 -- `never-ahead`: so the time of the present reading is at most the clock.
@@ -37,6 +39,8 @@ pub record LateReadings : Type 0 where
       → readingStep s j g t lent .number ≡ rowsBehind (readingStep s j g 0 lent .number) (cond (ltb (s .clock) t) 26 0)
   pub left-as-it-was : (s : State) (j : ℕ) (g : Given) (t : ℕ) (lent : List ℕ) → (readingStep s j g t lent .number ≡ 0 → ⊥)
       → (readingStep s j g t lent .sent ≡ []) × (readingStep s j g t lent .next ≡ s)
+  pub unknown-yields : (s : State) (j : ℕ) (g : Given) (t : ℕ) (lent : List ℕ) → readingStep s j g t lent .number ≡ 0
+      → statusFor (sensorOf (s .sheet) j) (present s j) ≡ 0 → storedOf (readingStep s j g t lent .next) j ≡ storedGiven (sensorOf (s .sheet) j) (arrival g t)
   pub passed-over : (bytes : List ℕ) (j : ℕ) (r : Arrival) (lent : List ℕ) (h : List Call) → Older bytes j r lent h
       → (packetsOf bytes h (callOf (Reading j r) lent) ≡ []) × (after bytes (callOf (Reading j r) lent ∷ h) ≡ after bytes h)
   pub stored : (bytes : List ℕ) (j : ℕ) (r : Arrival) (lent : List ℕ) (h : List Call) → Newer bytes j r lent h
