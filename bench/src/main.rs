@@ -292,7 +292,7 @@ fn model_call(case: &Case, device: &mut Device, k: u64, out: &mut Vec<u8>) -> u8
         Round::Connect if k % 2 == 0 => device.connect(device::LENT, 7, b"bench", out),
         Round::Connect => device.disconnect(device::LENT, 7, out),
         Round::Tick => device.tick(device::LENT, k, out),
-        Round::Reading => device.reading(device::LENT, 0, Reading::Integer(7), out),
+        Round::Reading => device.reading(device::LENT, 0, Reading::Integer(7), 0, out),
         Round::Line => device.line(device::LENT, 0, case.line.as_bytes(), out),
     }
 }

@@ -20,7 +20,7 @@ use Rattle.machine.specs.declared.Sensor.{Sensor}
 use Rattle.machine.specs.Sheet.{sensorOf}
 use Rattle.machine.specs.Range.{inRange}
 use Rattle.machine.specs.Declined.{Arrival, arrival, Reading, rowsBehind, readingDeclined, actionDeclined, declined}
-use Rattle.machine.specs.Machine.{sampleGiven, storedGiven, readingWork, perform}
+use Rattle.machine.specs.Machine.{sampleGiven, readingWork, perform}
 use Rattle.machine.specs.Report.{visit}
 use Rattle.machine.specs.Requests.{sendsOnly}
 use Rattle.machine.specs.State.{noStored, storedOf, supersedes, withReadings, withReading}
@@ -84,7 +84,7 @@ module _ (s : State) (j : ℕ) (g : Given) (time : ℕ) (lent : List ℕ) {good 
   asked-place e h = omega (arith, reading-place s j (arrival g time) lent i f e h)
 
   -- the number is that of these rows and, behind them, of the sample and of the time
-  pub reading-number : {rows late n : ℕ} → rows ≡ rowsThen good s lent own → late ≡ cond (ltb (s .clock) time) 26 0 → n ≡ rowsBehind rows (rowsBehind (sampledNumber sampled) late)
+  pub reading-number : {rows ahead n : ℕ} → rows ≡ rowsThen good s lent own → ahead ≡ cond (ltb (s .clock) time) 26 0 → n ≡ rowsBehind rows (rowsBehind (sampledNumber sampled) ahead)
       → numberOf s (Reading j (arrival g time)) lent ≡ n
   unfolding readingDeclined
   reading-number {rows = zero} e l h = reading-own s j (arrival g time) lent i f e refl .1 .1 ∙ sym (h ∙ rw l (ap (λ a. rowsBehind (sampledNumber a) (cond (ltb (s .clock) time) 26 0)) (rw (asked-place e refl) at x)))
@@ -93,13 +93,13 @@ module _ (s : State) (j : ℕ) (g : Given) (time : ℕ) (lent : List ℕ) {good 
   module _ {n : ℕ} {newer : Bool} {readings : List Stored} (w : newer ≡ (eqb n 0 && supersedes time (storedOf s (j % 32))))
       (q : readings ≡ cond newer (readingsAfter (s .readings) (j % 32) sampled time) (s .readings)) where
     -- where it is 0, what is visited is the state with the reading, or nothing where that is older
-    pub reading-made : (late : ℕ) {rows : ℕ} → rows ≡ rowsThen good s lent own → n ≡ rowsBehind rows (rowsBehind (sampledNumber sampled) late) → length (s .readings) ≡ 32 → n ≡ 0
+    pub reading-made : (ahead : ℕ) {rows : ℕ} → rows ≡ rowsThen good s lent own → n ≡ rowsBehind rows (rowsBehind (sampledNumber sampled) ahead) → length (s .readings) ≡ 32 → n ≡ 0
         → visiting newer (moment s (s .clock) readings) (Read (j % 32)) ≡ perform (s .sheet) s (Reading j (arrival g time))
     unfolding perform readingWork
-    reading-made late {rows} e h many z = go sampled refl (supersedes time (storedOf s j)) refl
+    reading-made ahead {rows} e h many z = go sampled refl (supersedes time (storedOf s j)) refl
       where
         none : (rows ≡ 0) × (sampledNumber sampled ≡ 0)
-        none = let a = rows-behind rows _ (sym h ∙ z) in (a .0, rows-behind (sampledNumber sampled) late (a .1) .0)
+        none = let a = rows-behind rows _ (sym h ∙ z) in (a .0, rows-behind (sampledNumber sampled) ahead (a .1) .0)
 
         p : j % 32 ≡ j
         p = asked-place e (none .0)

@@ -9,6 +9,7 @@ use machine::Stored;
 use machine::Subscription;
 use rules::Charset;
 use value::Reading;
+use value::Sample;
 use value::Sampled;
 ghost use mathlib.Core.Path.{_≡_};
 ghost use mathlib.Core.Bool.{cond, _&&_};
@@ -252,12 +253,26 @@ fn sample_row(before: u8, sampled: Sampled, behind: u8) -> u8
     }
 }
 
+// Whether a sample is unknown.
+fn is_unknown(x: Sample) -> bool
+    ensures { λ r. ⌜ r ≡ states.isUnknown x ⌝ }
+{
+    let kind = x.kind;
+    match kind {
+        0 => true,
+        1 => false,
+        2 => false,
+        3 => false,
+        4 => false,
+        _ => false,
+    }
+}
+
 // Whether a reading of its own time supersedes the stored one; not where the call is declined.
 fn does_supersede(number: u8, old: Stored, time: u64) -> bool
     ensures { λ r. ⌜ r ≡ (eqb number 0 && states.supersedes time old) ⌝ }
 {
-    let sample = old.sample;
-    (number == 0) & ((old.time <= time) | (sample.kind == 0))
+    (number == 0) & ((old.time <= time) | is_unknown(old.sample))
 }
 
 // The readings with a sensor's, at its own time, where it supersedes the stored one; else as they were.

@@ -1,13 +1,15 @@
 -- Document 02, (g): readings by their own time.
 use Prim.Native.Nat.{ℕ, zero, suc, _≤_, _<_}
+use native.Mathlib.Nat.{le-trans}
 use native.Mathlib.Omega.{arith}
-use mathlib.Core.Path.{_≡_, refl, ap, sym, _∙_, subst}
-use mathlib.Core.Bool.{Bool, true, false, cond, not, true≢false}
-use mathlib.Core.List.{List, [], _∷_, map}
+use mathlib.Core.Path.{_≡_, refl, ap, ap₂, sym, _∙_, subst}
+use mathlib.Core.Bool.{Bool, true, false, cond, not, _&&_, true≢false}
+use mathlib.Core.List.{List, [], _∷_, _++_, map}
 use mathlib.Core.Option.{Option, none, some}
 use lib.Dec.{eqb, leb, ltb}
 use lib.ListN.{length}
-use borrow.Author.Tests.{le-leb, le-ltb}
+use borrow.Author.Tests.{leb-true, le-leb, le-ltb}
+use Rattle.output.specs.Text.{text}
 use Rattle.message.specs.Delivery.{packet}
 use Rattle.value.specs.declared.Reading.{Reading as Given}
 use Rattle.value.specs.Reading.{sampleOf}
@@ -15,19 +17,19 @@ use Rattle.value.specs.Answer.{sampledNumber}
 use Rattle.machine.specs.declared.State.{State}
 use Rattle.machine.specs.Places.{isZero}
 use Rattle.machine.specs.Sheet.{sensorOf, notOnSheet}
-use Rattle.machine.specs.State.{storedOf, present, supersedes}
+use Rattle.machine.specs.State.{storedOf, present, isUnknown, supersedes}
 use Rattle.machine.specs.Range.{inRange}
-use Rattle.machine.specs.Messages.{statusFor}
+use Rattle.machine.specs.Messages.{statusFor, informWith, valueArgs, valueInform}
 use Rattle.machine.specs.Report.{Work}
-use Rattle.machine.specs.Declined.{Arrival, arrival, Reading, Call, callOf, rowsBehind, readingDeclined, actionDeclined, declined, refusal}
+use Rattle.machine.specs.Declined.{Arrival, arrival, Action, Connect, Disconnect, Tick, Reading, Log, Line, Call, callOf, rowsBehind, readingDeclined, actionDeclined, declined, refusal}
 use Rattle.machine.specs.Machine.{Effect, step, storedGiven}
-use Rattle.machine.specs.TwoDevices.{after, sheetOf, returnedZero, packetsOf, superseding, lastReading, timeFrom, clockOf}
+use Rattle.machine.specs.TwoDevices.{after, sheetOf, returnedZero, packetsOf, superseding, readingBy, lastReading, sampleFrom, timeFrom, clockOf}
 use Rattle.machine.specs.LateReadings.{Newer, Older, readingStep, LateReadings}
-use Rattle.machine.proofs.TestLaws.{or-in, cond-true, not-none, eqb-refl}
+use Rattle.machine.proofs.TestLaws.{or-in, cond-either, cond-cases, cond-true, not-none, eqb-refl}
 use Rattle.machine.proofs.RangeLaws as range
 use Rattle.machine.proofs.RangeLaws.{range-out, sensors-of}
 use Rattle.machine.proofs.StepLaws.{by-cases, accepted, reading-fits, by-superseding}
-use Rattle.machine.proofs.SampleRange.{unknown-kind}
+use Rattle.machine.proofs.SampleRange.{unknown-is}
 use Rattle.machine.proofs.KeptInRange.{after-in-range}
 use Rattle.machine.proofs.SupersedingLaws.{stored-next}
 use Rattle.machine.proofs.ListLaws.{sheet-is, clock-is, stored-is, by-newer, sent-packets}
@@ -72,7 +74,7 @@ unfolding supersedes
 unknown-yields s j g t lent z u = by-cases (λ (e : Effect). e .number ≡ 0 → storedOf (e .next) j ≡ storedGiven (sensorOf (s .sheet) j) (arrival g t)) s call
     (λ d _. by-superseding (λ (w : Work). storedOf (w .next) j ≡ storedGiven (sensorOf (s .sheet) j) (arrival g t)) (s .sheet) s j (arrival g t)
     (λ _. stored-next s j j (place d) (arrival g t) ∙ cond-true (eqb j j) _ _ (eqb-refl j))
-    (λ e. absurd (true≢false (sym (or-in (leb (storedOf s j .time) t) (eqb (present s j .kind) 0) (unknown-kind (sensorOf (s .sheet) j) (present s j) u)) ∙ e))))
+    (λ e. absurd (true≢false (sym (or-in (leb (storedOf s j .time) t) (isUnknown (present s j)) (unknown-is (sensorOf (s .sheet) j) (present s j) u)) ∙ e))))
     (λ n _ e. absurd (omega (arith, e))) z
   where
     call : Call
@@ -114,9 +116,33 @@ module _ (bytes : List ℕ) (j : ℕ) where
       hs : j < sheetOf bytes .count
       hs = on-sheet r lent h (o .accepted)
 
+  shown : j < sheetOf bytes .count → (id : ℕ) (h : List Call) → valueInform id (after bytes h) (sheetOf bytes) j
+      ≡ informWith id (text "sensor-value") (valueArgs (timeFrom (lastReading bytes j h)) (sensorOf (sheetOf bytes) j) (sampleFrom (sensorOf (sheetOf bytes) j) (lastReading bytes j h)))
+  unfolding valueInform
+  shown hs id h = let k = stored-is bytes j (place hs) hs h in ap₂ (λ t x. informWith id (text "sensor-value") (valueArgs t (sensorOf (sheetOf bytes) j) x)) (k .time-is) (k .sample-is)
+
   never-ahead : j < sheetOf bytes .count → (h : List Call) → timeFrom (lastReading bytes j h) ≤ clockOf bytes h
   never-ahead hs h = rw (← stored-is bytes j (place hs) hs h .time-is, ← clock-is bytes h)
       (range.stored-is (after bytes h) (range-out (after bytes h) (after-in-range bytes h)) j (subst (λ sheet. j < sheet .count) (sym (sheet-is bytes h)) hs) (place hs) .1)
+
+  later-time : (action : Action) (before : Option Arrival) → timeFrom before ≤ timeFrom (readingBy j action before)
+  later-time (Connect c address) before = omega arith
+  later-time (Disconnect c) before = omega arith
+  later-time (Tick t) before = omega arith
+  later-time (Reading k r) before = go (eqb k j) before
+    where
+      go : (b : Bool) (o : Option Arrival) → timeFrom o ≤ timeFrom (cond (b && superseding (r .time) o) (some r) o)
+      go false o = omega arith
+      go true none = omega arith
+      go true (some old) = cond-cases (λ o. old .time ≤ timeFrom o) (leb (old .time) (r .time)) (some r) (some old) (λ e. leb-true (old .time) (r .time) e) (λ _. omega arith)
+  later-time (Log level logger said) before = omega arith
+  later-time (Line c line) before = omega arith
+
+  never-back : (later h : List Call) → timeFrom (lastReading bytes j h) ≤ timeFrom (lastReading bytes j (later ++ h))
+  unfolding lastReading
+  never-back [] h = omega arith
+  never-back (call ∷ later) h = le-trans (never-back later h) (cond-either (λ o. timeFrom (lastReading bytes j (later ++ h)) ≤ timeFrom o) (returnedZero bytes (later ++ h) call) _ _
+      (later-time (call .action) (lastReading bytes j (later ++ h))) (omega arith))
 
   at-clock : j < sheetOf bytes .count → (h : List Call) → superseding (clockOf bytes h) (lastReading bytes j h) ≡ true
   at-clock hs h = go (lastReading bytes j h) (never-ahead hs h)
@@ -134,5 +160,7 @@ late-readings = record {
   passed-over = λ bytes j r lent h o. passed-over bytes j r lent h o;
   stored = λ bytes j r lent h o. stored bytes j r lent h o;
   never-ahead = λ bytes j hs h. never-ahead bytes j hs h;
+  shown = λ bytes j hs id h. shown bytes j hs id h;
+  never-back = λ bytes j later h. never-back bytes j later h;
   at-clock = λ bytes j hs h. at-clock bytes j hs h;
 }

@@ -13,7 +13,7 @@ use Rattle.machine.specs.declared.State.{State}
 use Rattle.machine.specs.declared.Stored.{Stored}
 use Rattle.machine.specs.Places.{isZero}
 use Rattle.machine.specs.Sheet.{sensorOf}
-use Rattle.machine.specs.State.{storedOf, supersedes, noStored, connected, pairOf, noSubscription, freshReadings}
+use Rattle.machine.specs.State.{storedOf, isUnknown, supersedes, noStored, connected, pairOf, noSubscription, freshReadings}
 use Rattle.machine.specs.Opening.{opened}
 use Rattle.machine.specs.Report.{Work}
 use Rattle.machine.specs.Requests.{sendsOnly}
@@ -58,7 +58,7 @@ module _ (bytes : List ℕ) (j : ℕ) (hj : j < 32) (hs : j < sheetOf bytes .cou
   unfolding freshReadings
   opened-stored = opened-either (λ s. j < s .sheet .count → StoredBy (sensorOf (s .sheet) j) (storedOf s j) none) bytes
       (λ sheet ok l. let e = getD-tabulate _ 32 j noStored hj ∙ cond-true (ltb j (sheet .count)) _ noStored (lt-ltb j (sheet .count) l) in
-      record { sample-is = ap (λ (x : Stored). x .sample) e; time-is = ap (λ (x : Stored). x .time) e; known = ap (λ (x : Stored). eqb (x .sample .kind) 0) e })
+      record { sample-is = ap (λ (x : Stored). x .sample) e; time-is = ap (λ (x : Stored). x .time) e; known = ap (λ (x : Stored). isUnknown (x .sample)) e })
       (λ l. absurd (omega arith)) hs
 
   -- what is stored of a sensor is the last reading that superseded the one before it

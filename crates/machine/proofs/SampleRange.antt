@@ -16,7 +16,7 @@ use Rattle.machine.specs.declared.Sensor.{Sensor}
 use Rattle.machine.specs.declared.Stored.{Stored}
 use Rattle.machine.specs.declared.State.{State}
 use Rattle.machine.specs.Sheet.{sensorOf}
-use Rattle.machine.specs.State.{storedOf, present, withClock, withReading}
+use Rattle.machine.specs.State.{storedOf, present, isUnknown, withClock, withReading}
 use Rattle.machine.specs.Range.{sampleOk}
 use Rattle.machine.specs.Messages.{statusFor}
 use Rattle.machine.specs.Report.{isValid}
@@ -81,10 +81,10 @@ status-most n x = go (eqb (x .kind) 0) (eqb (x .kind) 1) (eqb (x .kind) 2) (eqb 
     go false false false true = omega arith
     go false false false false = omega arith
 
--- no other kind than 0 has the status unknown
-pub unknown-kind : (n : Sensor) (x : Sample) → statusFor n x ≡ 0 → eqb (x .kind) 0 ≡ true
+-- no other quality than 0 has the status unknown
+pub unknown-is : (n : Sensor) (x : Sample) → statusFor n x ≡ 0 → isUnknown x ≡ true
 unfolding statusOf
-unknown-kind n x = go (eqb (x .kind) 0) (eqb (x .kind) 1) (eqb (x .kind) 2) (eqb (x .kind) 3)
+unknown-is n x = go (eqb (x .kind) 0) (eqb (x .kind) 1) (eqb (x .kind) 2) (eqb (x .kind) 3)
   where
     r : 1 ≤ rangeStatus (n .limits) (x .number)
     r = range-valid (n .limits) (x .number) .0

@@ -22,7 +22,7 @@ use Rattle.machine.specs.declared.Sensor.{Sensor}
 use Rattle.machine.specs.declared.Stored.{Stored}
 use Rattle.machine.specs.declared.State.{State}
 use Rattle.machine.specs.Sheet.{sensorOf}
-use Rattle.machine.specs.State.{storedOf, noStored, supersedes, withClient}
+use Rattle.machine.specs.State.{storedOf, noStored, isUnknown, supersedes, withClient}
 use Rattle.machine.specs.Report.{Work}
 use Rattle.machine.specs.Declined.{Arrival, Action, Connect, Disconnect, Tick, Reading, Log, Line, actionDeclined}
 use Rattle.machine.specs.Machine.{perform, readingStored, sampleIn, sampleGiven, storedGiven}
@@ -36,7 +36,7 @@ use Rattle.machine.proofs.NextLaws.{line-keeps}
 
 -- a sample is not that of a fresh sensor
 abbrev Known : Sampled → Type 0
-Known (As x) = eqb (x .kind) 0 ≡ false
+Known (As x) = isUnknown x ≡ false
 Known Unfit = Unit
 
 sample-known : (t options : ℕ) (r : Given) → Known (sampleOf t options r)
@@ -54,11 +54,11 @@ sample-known t options Failure = refl
 sample-known t options Unreachable = refl
 sample-known t options Inactive = refl
 
-given-known : (n : Sensor) (r : Arrival) → sampledNumber (sampleOf (n .kind) (n .«option_count») (r .reading)) ≡ 0 → eqb (sampleGiven n r .kind) 0 ≡ false
+given-known : (n : Sensor) (r : Arrival) → sampledNumber (sampleOf (n .kind) (n .«option_count») (r .reading)) ≡ 0 → isUnknown (sampleGiven n r) ≡ false
 unfolding sampleGiven
 given-known n r d = go (sampleOf (n .kind) (n .«option_count») (r .reading)) (sample-known (n .kind) (n .«option_count») (r .reading)) d
   where
-    go : (a : Sampled) → Known a → sampledNumber a ≡ 0 → eqb (sampleIn (n .kind) a .kind) 0 ≡ false
+    go : (a : Sampled) → Known a → sampledNumber a ≡ 0 → isUnknown (sampleIn (n .kind) a) ≡ false
     go (As x) h e = h
     go Unfit h e = absurd (omega arith)
 
@@ -72,7 +72,7 @@ isFresh (some r) = false
 pub record StoredBy (n : Sensor) (x : Stored) (o : Option Arrival) : Type 0 where
   pub sample-is : x .sample ≡ sampleFrom n o
   pub time-is : x .time ≡ timeFrom o
-  pub known : eqb (x .sample .kind) 0 ≡ isFresh o
+  pub known : isUnknown (x .sample) ≡ isFresh o
 
 -- the state's rule is the list's
 pub supersedes-is : (n : Sensor) (x : Stored) (o : Option Arrival) (t : ℕ) → StoredBy n x o → supersedes t x ≡ superseding t o

@@ -2,16 +2,17 @@
 use Prim.Native.Nat.{ℕ, _≤_, _<_}
 use mathlib.Core.Path.{_≡_}
 use mathlib.Core.Bool.{true, false, cond}
-use mathlib.Core.List.{List, [], _∷_}
+use mathlib.Core.List.{List, [], _∷_, _++_}
 use lib.Dec.{ltb}
+use Rattle.output.specs.Text.{text}
 use Rattle.value.specs.declared.Reading.{Reading as Given}
 use Rattle.machine.specs.declared.State.{State}
 use Rattle.machine.specs.Sheet.{sensorOf}
 use Rattle.machine.specs.State.{storedOf, present}
-use Rattle.machine.specs.Messages.{statusFor}
+use Rattle.machine.specs.Messages.{statusFor, informWith, valueArgs, valueInform}
 use Rattle.machine.specs.Declined.{Arrival, arrival, Reading, Call, callOf, rowsBehind}
 use Rattle.machine.specs.Machine.{Effect, step, storedGiven}
-use Rattle.machine.specs.TwoDevices.{after, sheetOf, returnedZero, packetsOf, superseding, lastReading, timeFrom, clockOf}
+use Rattle.machine.specs.TwoDevices.{after, sheetOf, returnedZero, packetsOf, superseding, lastReading, sampleFrom, timeFrom, clockOf}
 
 -- a reading of sensor j, behind the calls h, that returned 0 and supersedes the one stored before it
 pub record Newer (bytes : List ℕ) (j : ℕ) (r : Arrival) (lent : List ℕ) (h : List Call) : Type 0 where
@@ -32,8 +33,10 @@ readingStep s j g t lent = step s (callOf (Reading j (arrival g t)) lent)
 -- `unknown-yields`: it supersedes "if the stored status is unknown", 0 in Table 8, in every state, whatever the times.
 -- `passed-over`: "An older one is accepted, changes nothing and causes no report, under auto too": no delivery at all.
 -- `stored`: one that supersedes is stored, with its own time.
--- `never-ahead`: so the time of the present reading is at most the clock.
--- `at-clock`: and a reading that brings the clock supersedes any ("the console gives the clock").
+-- `shown`: "`sensor-value` shows the reading's own time", that of the present reading by the list.
+-- `never-ahead`: that time is at most the clock.
+-- `never-back`: and never goes back.
+-- `at-clock`: so a reading that brings the clock supersedes any ("the console gives the clock").
 pub record LateReadings : Type 0 where
   pub ahead : (s : State) (j : ℕ) (g : Given) (t : ℕ) (lent : List ℕ)
       → readingStep s j g t lent .number ≡ rowsBehind (readingStep s j g 0 lent .number) (cond (ltb (s .clock) t) 26 0)
@@ -45,5 +48,8 @@ pub record LateReadings : Type 0 where
       → (packetsOf bytes h (callOf (Reading j r) lent) ≡ []) × (after bytes (callOf (Reading j r) lent ∷ h) ≡ after bytes h)
   pub stored : (bytes : List ℕ) (j : ℕ) (r : Arrival) (lent : List ℕ) (h : List Call) → Newer bytes j r lent h
       → storedOf (after bytes (callOf (Reading j r) lent ∷ h)) j ≡ storedGiven (sensorOf (sheetOf bytes) j) r
+  pub shown : (bytes : List ℕ) (j : ℕ) → j < sheetOf bytes .count → (id : ℕ) (h : List Call) → valueInform id (after bytes h) (sheetOf bytes) j
+      ≡ informWith id (text "sensor-value") (valueArgs (timeFrom (lastReading bytes j h)) (sensorOf (sheetOf bytes) j) (sampleFrom (sensorOf (sheetOf bytes) j) (lastReading bytes j h)))
   pub never-ahead : (bytes : List ℕ) (j : ℕ) → j < sheetOf bytes .count → (h : List Call) → timeFrom (lastReading bytes j h) ≤ clockOf bytes h
+  pub never-back : (bytes : List ℕ) (j : ℕ) (later h : List Call) → timeFrom (lastReading bytes j h) ≤ timeFrom (lastReading bytes j (later ++ h))
   pub at-clock : (bytes : List ℕ) (j : ℕ) → j < sheetOf bytes .count → (h : List Call) → superseding (clockOf bytes h) (lastReading bytes j h) ≡ true

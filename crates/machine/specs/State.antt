@@ -100,10 +100,13 @@ emptied s halted level = record { sheet = s .sheet; clock = s .clock; halted = h
 unfoldable pub withReading : State → ℕ → Stored → State
 withReading s j x = withReadings s (tabulate (λ i. cond (eqb i j) x (storedOf s i)) 32)
 
--- whether a reading of time t supersedes the stored one: document 02, (g), "if its time is equal or later, or if the stored status is unknown",
--- which kind 0 has and no other
+-- the status is unknown: quality 0 has that status, and no other
+abbrev pub isUnknown : Sample → Bool
+isUnknown x = eqb (x .kind) 0
+
+-- whether a reading of time t supersedes the stored one: document 02, (g), "if its time is equal or later, or if the stored status is unknown"
 unfoldable pub supersedes : ℕ → Stored → Bool
-supersedes t old = leb (old .time) t || eqb (old .sample .kind) 0
+supersedes t old = leb (old .time) t || isUnknown (old .sample)
 
 -- Opening.
 

@@ -195,7 +195,7 @@ lastReport sheet j [] = none
 lastReport sheet j (l ∷ ls) = later (lastReport sheet j ls) (reportBy sheet j (parse (withoutEnd l)))
 
 -- whether a reading of time t supersedes the present one: document 02, (g), "if its time is equal or later, or if the stored status is unknown", as it is
--- before the first reading, and after none
+-- before the first reading; no reading gives it
 abbrev pub superseding : ℕ → Option Arrival → Bool
 superseding t none = true
 superseding t (some r) = leb (r .time) t
