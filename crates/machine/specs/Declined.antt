@@ -27,7 +27,7 @@ use Rattle.machine.specs.Range.{inRange}
 use Rattle.machine.specs.Requests.{Asked, Nothing, NotMessage, Reply, Unknown, Asks, asked, argument, askedPlaces, requestNamed, found, foundNumber, levelOf, listed, kindAsked, parameterCount, byDifference, isBad, parametersOf, strategyMade, shortestOverLongest}
 use Rattle.machine.specs.Messages.{refusalEntry, refusalReply}
 
--- a reading as it arrives: what it says, and when it was taken, in milliseconds: document 02, (g), "A reading now brings its own time"
+-- a reading as it arrives: what it says and, in milliseconds, the time that it brings: document 02, (g), "A reading now brings its own time"
 pub record Arrival : Type 0 where
   pub reading : Given
   pub time : ℕ

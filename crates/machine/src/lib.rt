@@ -92,7 +92,7 @@ pub struct Subscription {
     pub time: u64,
 }
 
-// A sensor's reading and its time.
+// A sensor's reading and its own time.
 pub struct Stored {
     pub sample: Sample,
     pub time: u64,
