@@ -111,7 +111,8 @@ module _ (s : State) (j : ℕ) (g : Given) (time : ℕ) (lent : List ℕ) {good 
             → visiting newer (moment s (s .clock) readings) (Read (j % 32)) ≡ perform (s .sheet) s (Reading j (arrival g time))
         go Unfit u b v = absurd (omega (arith, sym (none .1) ∙ ap sampledNumber u))
         go (As y) u true v =
-            let stored = stored-reading s j (record { sample = y; time = time }) many (reading-place s j (arrival g time) lent i f e (none .0)) ∙ ap (λ (y : Sample). withReading s j (record { sample = y; time = time })) (sym (given-is (sensorOf (s .sheet) j) (arrival g time) (rw p at (sym x ∙ u)))) in
+            let sample = given-is (sensorOf (s .sheet) j) (arrival g time) (rw p at (sym x ∙ u)) in
+            let stored = stored-reading s j (record { sample = y; time = time }) many (reading-place s j (arrival g time) lent i f e (none .0)) ∙ ap (λ (y : Sample). withReading s j (record { sample = y; time = time })) (sym sample) in
             rw (q, newer-is, v, u, p) (ap (λ (t : State). visit (s .sheet) t (Read j)) stored)
         go (As y) u false v = rw (q, newer-is, v)
 

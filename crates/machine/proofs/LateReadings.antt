@@ -26,13 +26,12 @@ use Rattle.machine.specs.Machine.{Effect, step, storedGiven}
 use Rattle.machine.specs.TwoDevices.{after, sheetOf, returnedZero, packetsOf, superseding, readingBy, lastReading, sampleFrom, timeFrom, clockOf}
 use Rattle.machine.specs.LateReadings.{Newer, Older, readingStep, LateReadings}
 use Rattle.machine.proofs.TestLaws.{or-in, cond-either, cond-cases, cond-true, not-none, eqb-refl}
-use Rattle.machine.proofs.RangeLaws as range
-use Rattle.machine.proofs.RangeLaws.{range-out, sensors-of}
+use Rattle.machine.proofs.RangeLaws.{range-out, sensors-of, stored-is}
 use Rattle.machine.proofs.StepLaws.{by-cases, accepted, reading-fits, by-superseding}
 use Rattle.machine.proofs.SampleRange.{unknown-is}
 use Rattle.machine.proofs.KeptInRange.{after-in-range}
 use Rattle.machine.proofs.SupersedingLaws.{stored-next}
-use Rattle.machine.proofs.ListLaws.{sheet-is, clock-is, stored-is, by-newer, sent-packets}
+use Rattle.machine.proofs.ListLaws.{sheet-is, clock-is, stored-by, by-newer, sent-packets}
 use Rattle.machine.proofs.TellsLaws.{sheet-rules}
 
 -- One call.
@@ -119,11 +118,11 @@ module _ (bytes : List ℕ) (j : ℕ) where
   shown : j < sheetOf bytes .count → (id : ℕ) (h : List Call) → valueInform id (after bytes h) (sheetOf bytes) j
       ≡ informWith id (text "sensor-value") (valueArgs (timeFrom (lastReading bytes j h)) (sensorOf (sheetOf bytes) j) (sampleFrom (sensorOf (sheetOf bytes) j) (lastReading bytes j h)))
   unfolding valueInform
-  shown hs id h = let k = stored-is bytes j (place hs) hs h in ap₂ (λ t x. informWith id (text "sensor-value") (valueArgs t (sensorOf (sheetOf bytes) j) x)) (k .time-is) (k .sample-is)
+  shown hs id h = let k = stored-by bytes j (place hs) hs h in ap₂ (λ t x. informWith id (text "sensor-value") (valueArgs t (sensorOf (sheetOf bytes) j) x)) (k .time-is) (k .sample-is)
 
   never-ahead : j < sheetOf bytes .count → (h : List Call) → timeFrom (lastReading bytes j h) ≤ clockOf bytes h
-  never-ahead hs h = rw (← stored-is bytes j (place hs) hs h .time-is, ← clock-is bytes h)
-      (range.stored-is (after bytes h) (range-out (after bytes h) (after-in-range bytes h)) j (subst (λ sheet. j < sheet .count) (sym (sheet-is bytes h)) hs) (place hs) .1)
+  never-ahead hs h = rw (← stored-by bytes j (place hs) hs h .time-is, ← clock-is bytes h)
+      (stored-is (after bytes h) (range-out (after bytes h) (after-in-range bytes h)) j (subst (λ sheet. j < sheet .count) (sym (sheet-is bytes h)) hs) (place hs) .1)
 
   later-time : (action : Action) (before : Option Arrival) → timeFrom before ≤ timeFrom (readingBy j action before)
   later-time (Connect c address) before = omega arith

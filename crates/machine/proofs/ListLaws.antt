@@ -58,18 +58,18 @@ module _ (bytes : List ℕ) (j : ℕ) (hj : j < 32) (hs : j < sheetOf bytes .cou
   unfolding freshReadings
   opened-stored = opened-either (λ s. j < s .sheet .count → StoredBy (sensorOf (s .sheet) j) (storedOf s j) none) bytes
       (λ sheet ok l. let e = getD-tabulate _ 32 j noStored hj ∙ cond-true (ltb j (sheet .count)) _ noStored (lt-ltb j (sheet .count) l) in
-      record { sample-is = ap (λ (x : Stored). x .sample) e; time-is = ap (λ (x : Stored). x .time) e; known = ap (λ (x : Stored). isUnknown (x .sample)) e })
+      record { sample-is = ap (λ (x : Stored). x .sample) e; time-is = ap (λ (x : Stored). x .time) e; fresh-is = ap (λ (x : Stored). isUnknown (x .sample)) e })
       (λ l. absurd (omega arith)) hs
 
   -- what is stored of a sensor is the last reading that superseded the one before it
-  pub stored-is : (h : List Call) → StoredBy (sensorOf (sheetOf bytes) j) (storedOf (after bytes h) j) (lastReading bytes j h)
+  pub stored-by : (h : List Call) → StoredBy (sensorOf (sheetOf bytes) j) (storedOf (after bytes h) j) (lastReading bytes j h)
   unfolding after lastReading
-  stored-is [] = opened-stored
-  stored-is (call ∷ h) = by-cases (λ (e : Effect). StoredBy (sensorOf (sheetOf bytes) j) (storedOf (e .next) j) (cond (isZero (e .number)) (readingBy j (call .action) (lastReading bytes j h)) (lastReading bytes j h))) (after bytes h) call
+  stored-by [] = opened-stored
+  stored-by (call ∷ h) = by-cases (λ (e : Effect). StoredBy (sensorOf (sheetOf bytes) j) (storedOf (e .next) j) (cond (isZero (e .number)) (readingBy j (call .action) (lastReading bytes j h)) (lastReading bytes j h))) (after bytes h) call
       (λ z. subst (λ sheet. StoredBy (sensorOf sheet j) (storedOf (perform (after bytes h .sheet) (after bytes h) (call .action) .next) j) (readingBy j (call .action) (lastReading bytes j h))) (sheet-is bytes h)
       (perform-stored (after bytes h) j hj (call .action) (accepted (after bytes h) call z .fits) (lastReading bytes j h)
-      (subst (λ sheet. StoredBy (sensorOf sheet j) (storedOf (after bytes h) j) (lastReading bytes j h)) (sym (sheet-is bytes h)) (stored-is h))))
-      (λ n _. stored-is h)
+      (subst (λ sheet. StoredBy (sensorOf sheet j) (storedOf (after bytes h) j) (lastReading bytes j h)) (sym (sheet-is bytes h)) (stored-by h))))
+      (λ n _. stored-by h)
 
   -- a reading that returned 0 supersedes what the list says is stored, or is older
   pub by-newer : (P : Effect → Type 0) (r : Arrival) (lent : List ℕ) (h : List Call) → returnedZero bytes h (callOf (Reading j r) lent) ≡ true
@@ -80,7 +80,7 @@ module _ (bytes : List ℕ) (j : ℕ) (hj : j < 32) (hs : j < sheetOf bytes .cou
       (λ n _ e. absurd (true≢false (sym e))) z
     where
       same : supersedes (r .time) (storedOf (after bytes h) j) ≡ superseding (r .time) (lastReading bytes j h)
-      same = supersedes-is (sensorOf (sheetOf bytes) j) (storedOf (after bytes h) j) (lastReading bytes j h) (r .time) (stored-is h)
+      same = supersedes-is (sensorOf (sheetOf bytes) j) (storedOf (after bytes h) j) (lastReading bytes j h) (r .time) (stored-by h)
 
 -- Connection.
 

@@ -21,7 +21,7 @@ use Rattle.machine.proofs.PlacesLaws.{each-weaker}
 use Rattle.machine.proofs.QuietLaws.{Silent}
 use Rattle.machine.proofs.ShapeLaws.{Held, ReportsOf, by-shape}
 use Rattle.machine.proofs.Sent.{sent-well-formed}
-use Rattle.machine.proofs.ListLaws.{sheet-is, clock-is, stored-is, sent-packets}
+use Rattle.machine.proofs.ListLaws.{sheet-is, clock-is, stored-by, sent-packets}
 use Rattle.machine.proofs.ArchiveLaws.{lines-packed, each-to}
 use Rattle.machine.proofs.TellsLaws.{lines-read, sheet-rules}
 
@@ -66,7 +66,7 @@ held-report sheet s w k r e h =
 module _ (bytes : List ℕ) where
   held-then : (g : List Call) (k : ℕ) (r : Told) → k < sheetOf bytes .count → r ≡ toldOf (sensorOf (sheetOf bytes) k) (after bytes g .clock) (present (after bytes g) k)
       → r ≡ toldOf (sensorOf (sheetOf bytes) k) (clockOf bytes g) (readingAt bytes k g)
-  held-then g k r hs e = e ∙ ap₂ (toldOf (sensorOf (sheetOf bytes) k)) (clock-is bytes g) (stored-is bytes k (omega (arith, sheet-rules bytes .count-most)) hs g .sample-is)
+  held-then g k r hs e = e ∙ ap₂ (toldOf (sensorOf (sheetOf bytes) k)) (clock-is bytes g) (stored-by bytes k (omega (arith, sheet-rules bytes .count-most)) hs g .sample-is)
 
   lines-true : (a : ℕ) (h : List Call) (call : Call) → Each (λ l. True (sheetOf bytes) (after bytes (call ∷ h)) (lineNews (sheetOf bytes) l)) (linesTo a (packetsOf bytes h call))
   unfolding after

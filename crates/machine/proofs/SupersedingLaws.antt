@@ -2,7 +2,7 @@
 use Prim.Native.Nat.{ℕ, _<_}
 use native.Mathlib.Omega.{arith}
 use mathlib.Core.Path.{_≡_, refl, ap, ap₂, sym, _∙_, subst}
-use mathlib.Core.Bool.{Bool, true, false, cond, _&&_, _||_}
+use mathlib.Core.Bool.{Bool, true, false, cond, _&&_, _||_, or-false}
 use mathlib.Core.List.{List}
 use mathlib.Core.Option.{Option, none, some}
 use lib.Dec.{eqb, leb, ltb}
@@ -35,30 +35,30 @@ use Rattle.machine.proofs.NextLaws.{line-keeps}
 -- No reading is unknown.
 
 -- a sample is not that of a fresh sensor
-abbrev Known : Sampled → Type 0
-Known (As x) = isUnknown x ≡ false
-Known Unfit = Unit
+abbrev NotFresh : Sampled → Type 0
+NotFresh (As x) = isUnknown x ≡ false
+NotFresh Unfit = Unit
 
-sample-known : (t options : ℕ) (r : Given) → Known (sampleOf t options r)
+never-fresh : (t options : ℕ) (r : Given) → NotFresh (sampleOf t options r)
 unfolding sampleOf
-sample-known t options (Integer x) = cond-either Known (eqb t 1) _ Unfit (cond-either Known (isSigned32 x) _ Unfit refl tt) tt
-sample-known t options (Float x) = cond-either Known (eqb t 2) (ofFit (exact1024 x)) Unfit (fit (exact1024 x)) tt
+never-fresh t options (Integer x) = cond-either NotFresh (eqb t 1) _ Unfit (cond-either NotFresh (isSigned32 x) _ Unfit refl tt) tt
+never-fresh t options (Float x) = cond-either NotFresh (eqb t 2) (ofFit (exact1024 x)) Unfit (fit (exact1024 x)) tt
   where
-    fit : (f : Fit) → Known (ofFit f)
+    fit : (f : Fit) → NotFresh (ofFit f)
     fit (At n) = refl
     fit Out = tt
-sample-known t options (Boolean b) = cond-either Known (eqb t 3) _ Unfit (cond-either Known (ltb b 2) _ Unfit refl tt) tt
-sample-known t options (Choice i) = cond-either Known (eqb t 4) _ Unfit (cond-either Known (ltb i options) _ Unfit refl tt) tt
-sample-known t options (Timestamp m) = cond-either Known (eqb t 5) _ Unfit (cond-either Known (ltb m 10000000000000) _ Unfit refl tt) tt
-sample-known t options Failure = refl
-sample-known t options Unreachable = refl
-sample-known t options Inactive = refl
+never-fresh t options (Boolean b) = cond-either NotFresh (eqb t 3) _ Unfit (cond-either NotFresh (ltb b 2) _ Unfit refl tt) tt
+never-fresh t options (Choice i) = cond-either NotFresh (eqb t 4) _ Unfit (cond-either NotFresh (ltb i options) _ Unfit refl tt) tt
+never-fresh t options (Timestamp m) = cond-either NotFresh (eqb t 5) _ Unfit (cond-either NotFresh (ltb m 10000000000000) _ Unfit refl tt) tt
+never-fresh t options Failure = refl
+never-fresh t options Unreachable = refl
+never-fresh t options Inactive = refl
 
-given-known : (n : Sensor) (r : Arrival) → sampledNumber (sampleOf (n .kind) (n .«option_count») (r .reading)) ≡ 0 → isUnknown (sampleGiven n r) ≡ false
+given-not-fresh : (n : Sensor) (r : Arrival) → sampledNumber (sampleOf (n .kind) (n .«option_count») (r .reading)) ≡ 0 → isUnknown (sampleGiven n r) ≡ false
 unfolding sampleGiven
-given-known n r d = go (sampleOf (n .kind) (n .«option_count») (r .reading)) (sample-known (n .kind) (n .«option_count») (r .reading)) d
+given-not-fresh n r d = go (sampleOf (n .kind) (n .«option_count») (r .reading)) (never-fresh (n .kind) (n .«option_count») (r .reading)) d
   where
-    go : (a : Sampled) → Known a → sampledNumber a ≡ 0 → isUnknown (sampleIn (n .kind) a) ≡ false
+    go : (a : Sampled) → NotFresh a → sampledNumber a ≡ 0 → isUnknown (sampleIn (n .kind) a) ≡ false
     go (As x) h e = h
     go Unfit h e = absurd (omega arith)
 
@@ -72,20 +72,16 @@ isFresh (some r) = false
 pub record StoredBy (n : Sensor) (x : Stored) (o : Option Arrival) : Type 0 where
   pub sample-is : x .sample ≡ sampleFrom n o
   pub time-is : x .time ≡ timeFrom o
-  pub known : isUnknown (x .sample) ≡ isFresh o
+  pub fresh-is : isUnknown (x .sample) ≡ isFresh o
 
 -- the state's rule is the list's
 pub supersedes-is : (n : Sensor) (x : Stored) (o : Option Arrival) (t : ℕ) → StoredBy n x o → supersedes t x ≡ superseding t o
 unfolding supersedes
-supersedes-is n x o t h = ap₂ (λ k b. leb k t || b) (h .time-is) (h .known) ∙ go o
+supersedes-is n x o t h = ap₂ (λ k b. leb k t || b) (h .time-is) (h .fresh-is) ∙ go o
   where
-    or-none : (b : Bool) → (b || false) ≡ b
-    or-none true = refl
-    or-none false = refl
-
     go : (o : Option Arrival) → (leb (timeFrom o) t || isFresh o) ≡ superseding t o
     go none = ap (λ b. b || true) (le-leb 0 t (omega arith))
-    go (some r) = or-none (leb (r .time) t)
+    go (some r) = or-false (leb (r .time) t)
 
 -- a reading that supersedes is stored, and no other sensor's is touched
 pub stored-next : (s : State) (k j : ℕ) → j < 32 → (r : Arrival) → storedOf (readingStored (s .sheet) s k r .next) j ≡ cond (eqb k j) (storedGiven (sensorOf (s .sheet) k) r) (storedOf s j)
@@ -109,7 +105,7 @@ reading-stored s j hj k r d o h = go (eqb k j) refl
         own : actionDeclined (s .sheet) s (Reading j r) ≡ 0 → StoredBy n (storedOf (perform (s .sheet) s (Reading j r) .next) j) (cond (superseding (r .time) o) (some r) o)
         own d = by-superseding (λ (w : Work). StoredBy n (storedOf (w .next) j) (cond (superseding (r .time) o) (some r) o)) (s .sheet) s j r
             (λ t. subst (λ b. StoredBy n (storedOf (readingStored (s .sheet) s j r .next) j) (cond b (some r) o)) (sym t ∙ supersedes-is n (storedOf s j) o (r .time) h)
-            (subst (λ (x : Stored). StoredBy n x (some r)) (sym (stored-next s j j hj r ∙ cond-true (eqb j j) _ _ (eqb-refl j))) (record { sample-is = refl; time-is = refl; known = given-known n r (reading-fits s j r d .fit) })))
+            (subst (λ (x : Stored). StoredBy n x (some r)) (sym (stored-next s j j hj r ∙ cond-true (eqb j j) _ _ (eqb-refl j))) (record { sample-is = refl; time-is = refl; fresh-is = given-not-fresh n r (reading-fits s j r d .fit) })))
             (λ t. subst (λ b. StoredBy n (storedOf s j) (cond b (some r) o)) (sym t ∙ supersedes-is n (storedOf s j) o (r .time) h) h)
 
 pub perform-stored : (s : State) (j : ℕ) → j < 32 → (action : Action) → actionDeclined (s .sheet) s action ≡ 0 → (o : Option Arrival) → StoredBy (sensorOf (s .sheet) j) (storedOf s j) o

@@ -30,7 +30,7 @@ use Rattle.machine.proofs.OpenedRange.{opened-range}
 use Rattle.machine.proofs.Impossible.{never-impossible}
 use Rattle.machine.proofs.Sent.{sent-well-formed}
 use Rattle.machine.proofs.FileLaws.{line-parses, whole-lines, cut-lines}
-use Rattle.machine.proofs.ListLaws.{sheet-is, clock-is, stored-is, connected-is, at-end-small, heard-is}
+use Rattle.machine.proofs.ListLaws.{sheet-is, clock-is, stored-by, connected-is, at-end-small, heard-is}
 use Rattle.machine.proofs.StrategyLaws.{strategy-is}
 use Rattle.machine.proofs.KnownLaws.{Good}
 use Rattle.machine.proofs.SettledLaws.{good}
@@ -114,7 +114,7 @@ module _ (bytes : List ℕ) (a : ℕ) (h : List Call) where
           ∙ (later-none (lastReport (sheetOf bytes) j (map line (messagesOf bytes a h))) ∙ ap (lastReport (sheetOf bytes) j) (sym (lines-are bytes a h))))
 
       pub reading-held : present (after bytes h) j ≡ readingAt bytes j h
-      reading-held = stored-is bytes j hj hs h .sample-is
+      reading-held = stored-by bytes j hj hs h .sample-is
 
       file-held : fileView (sheetOf bytes) j (linesOf bytes a h) ≡ standing (sheetOf bytes) (after bytes h) a j
       file-held = ap (fileView (sheetOf bytes) j) (lines-are bytes a h) ∙ (view-lines (sheetOf bytes) j (messagesOf bytes a h) noView well ∙ sym view-held)

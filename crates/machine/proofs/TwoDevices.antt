@@ -20,7 +20,7 @@ use Rattle.machine.specs.TwoDevices.{Alike, Device, Equal, Held, Holds, 
 use Rattle.machine.specs.Tells.{fileView, Same, Near, Known, TellsAt}
 use Rattle.machine.specs.Claims.{Viewed}
 use Rattle.machine.proofs.FileLaws.{file-apart}
-use Rattle.machine.proofs.ListLaws.{clock-is, stored-is}
+use Rattle.machine.proofs.ListLaws.{clock-is, stored-by}
 use Rattle.machine.proofs.ArchiveLaws.{lines-are}
 use Rattle.machine.proofs.TellsLaws.{sheet-rules, well, view-held, strategy-held, report-held, reading-held, tells}
 use Rattle.machine.proofs.SampleRange.{valid-is}
@@ -86,7 +86,7 @@ module _ (bytes : List ℕ) (d : Device) (c : archiveConnected bytes d ≡ true)
     strategy-held = strategy-held bytes (d .archive) (history bytes d) c j h;
     report-held = report-held bytes (d .archive) (history bytes d) c j h;
     reading-held = reading-held bytes (d .archive) (history bytes d) c j h;
-    time-held = stored-is bytes j (omega (arith, sheet-rules bytes .count-most)) h (history bytes d) .time-is;
+    time-held = stored-by bytes j (omega (arith, sheet-rules bytes .count-most)) h (history bytes d) .time-is;
     clock-held = clock-is bytes (history bytes d);
   }
 
