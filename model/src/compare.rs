@@ -2,7 +2,7 @@
 //! of a difference as short as it gets.
 
 use crate::arrival::Arrival;
-use crate::generate::{self, Profile};
+use crate::generate::{self, Size};
 use crate::readable;
 use crate::script::{read_entry, Call, Entry, Session};
 use crate::tally::{request_of, Tally};
@@ -110,7 +110,7 @@ pub fn compare(program: &str, seeds: std::ops::Range<u64>, calls: usize) -> io::
     while seed < seeds.end {
         let end = seeds.end.min(seed + (BATCH / calls.max(1)).max(1) as u64);
         let scripts: Vec<Script> =
-            (seed..end).map(|seed| generate::script(seed, Profile::full(calls))).collect();
+            (seed..end).map(|seed| generate::script(seed, Size::full(calls))).collect();
         if let Some(place) = differing_script(program, &scripts, &mut tally)? {
             println!("seed {}:", seed + place as u64);
             show_shrunk(program, scripts[place].clone())?;
@@ -201,7 +201,7 @@ fn show(script: &Script, found: &Difference) {
 pub fn tally(seeds: std::ops::Range<u64>, calls: usize) -> Tally {
     let mut tally = Tally::default();
     for seed in seeds {
-        model_answers(&generate::script(seed, Profile::full(calls)), &mut tally);
+        model_answers(&generate::script(seed, Size::full(calls)), &mut tally);
     }
     tally
 }

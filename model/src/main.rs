@@ -1,6 +1,6 @@
 //! The commands of the model.
 
-use model::generate::{self, Profile};
+use model::generate::{self, Size};
 use model::{compare, console, encode, others, script, tells, vectors};
 use std::fs;
 use std::io::{self, BufReader, BufWriter, Read, Write};
@@ -37,7 +37,7 @@ fn run(words: &[&str]) -> Result<bool, Box<dyn std::error::Error>> {
     match *words {
         ["answer"] => script::answer_all(BufReader::new(io::stdin()), BufWriter::new(io::stdout()))?,
         ["generate", seed, calls] => {
-            let lines = generate::script(seed.parse()?, Profile::full(calls.parse()?));
+            let lines = generate::script(seed.parse()?, Size::full(calls.parse()?));
             write_lines(&lines)?;
         }
         ["compare", replay, from, to, calls] => {

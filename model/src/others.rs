@@ -3,7 +3,7 @@
 
 use crate::compare::{other_answers, Script, BATCH};
 use crate::generate::others::{one_dispatcher, OneDispatcher};
-use crate::generate::Profile;
+use crate::generate::Size;
 use crate::message::Message;
 use crate::readable::quoted;
 use crate::script::bytes;
@@ -96,7 +96,7 @@ pub fn compare_all(
     while from < seeds.end {
         let to = seeds.end.min(from + batch);
         let made: Vec<OneDispatcher> =
-            (from..to).map(|seed| one_dispatcher(seed, Profile::full(calls))).collect();
+            (from..to).map(|seed| one_dispatcher(seed, Size::full(calls))).collect();
         let texts: Vec<Script> =
             made.iter().flat_map(|one| one.lists.iter()).map(|list| text(list)).collect();
         let given = answers(&texts.iter().collect::<Vec<_>>())?;

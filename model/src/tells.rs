@@ -12,7 +12,7 @@
 
 use crate::arrival::Arrival;
 use crate::files::{files, File, Moment, Step};
-use crate::generate::{self, Profile};
+use crate::generate::{self, Size};
 use crate::readable;
 use crate::reader::{state_text, Conclusion, Extremes, Known, Reader, Told};
 use crate::strategy::{Report, Strategy, Subscription, NAMES};
@@ -346,7 +346,7 @@ impl Check<'_> {
 pub fn check_all(seeds: Range<u64>, calls: usize) -> (Counts, Vec<(u64, String)>) {
     let (mut counts, mut found) = (Counts::default(), Vec::new());
     for seed in seeds {
-        let script = generate::script(seed, Profile::full(calls));
+        let script = generate::script(seed, Size::full(calls));
         if let Err(what) = check_script(&script, &mut counts) {
             found.push((seed, what));
         }
@@ -365,7 +365,7 @@ pub fn check(seeds: Range<u64>, calls: usize) -> bool {
         println!("seed {seed}: {what}");
     }
     println!("\n{} of {} scripts. From seed {first}:", found.len(), counts.scripts);
-    show_shrunk(generate::script(*first, Profile::full(calls)));
+    show_shrunk(generate::script(*first, Size::full(calls)));
     false
 }
 

@@ -1,7 +1,7 @@
 //! The stored script: what is written by hand, then the starts of sheets, the escapes and generated scripts.
 
 use crate::encode;
-use crate::generate::{self, Profile};
+use crate::generate::{self, Size};
 use crate::readable::quoted;
 
 /// The scripts written by hand, in order.
@@ -88,11 +88,11 @@ pub fn stored() -> Result<Vec<u8>, String> {
         let encoded = encode::encode(&text).map_err(|error| format!("{name}: {error}"))?;
         script.extend_from_slice(encoded.as_bytes());
     }
-    let small = SMALL_SEEDS.map(|seed| (seed, Profile::small(CALLS)));
-    let full = FULL_SEEDS.map(|seed| (seed, Profile::full(CALLS)));
-    for (seed, profile) in small.chain(full) {
+    let small = SMALL_SEEDS.map(|seed| (seed, Size::small(CALLS)));
+    let full = FULL_SEEDS.map(|seed| (seed, Size::full(CALLS)));
+    for (seed, size) in small.chain(full) {
         script.extend_from_slice(format!("; generated, seed {seed}\n").as_bytes());
-        for line in generate::script(seed, profile) {
+        for line in generate::script(seed, size) {
             script.extend_from_slice(&line);
             script.push(b'\n');
         }

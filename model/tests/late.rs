@@ -4,7 +4,7 @@ use model::arrival::Arrival;
 use model::console;
 use model::device::{Device, Taken};
 use model::encode::encode;
-use model::generate::{script, Profile};
+use model::generate::{script, Size};
 use model::script::{read_entry, Call, Entry, Session};
 use model::strategy::{Difference, Rate, Report, Strategy, Subscription};
 use model::value::{Reading, State, Status, STATUSES};
@@ -80,7 +80,7 @@ fn the_latest_is_stored_whatever_the_order() {
     let (mut accepted, mut passed_over) = (0, 0);
     for seed in 0..60 {
         let (mut session, mut taken) = (Session::default(), Vec::new());
-        for line in script(seed, Profile::small(300)) {
+        for line in script(seed, Size::small(300)) {
             let Entry::Call(call) = read_entry(&line) else { continue };
             let arrival = Arrival::of(&session.device, &call);
             let number = session.perform(&call);

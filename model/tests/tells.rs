@@ -3,7 +3,7 @@
 
 use model::encode::encode;
 use model::files::{files, File};
-use model::generate::{script, Profile};
+use model::generate::{script, Size};
 use model::reader::{conclude, Conclusion, Told};
 use model::sheet::{Kind, Sheet};
 use model::strategy::Difference;
@@ -375,7 +375,7 @@ fn a_query_and_a_setting_look_alike() {
 fn every_cut_of_short_files() {
     let mut concluded = 0;
     for seed in 0..80 {
-        for file in files(&script(seed, Profile::small(60))) {
+        for file in files(&script(seed, Size::small(60))) {
             concluded += (0..=file.lines.len()).map(|seen| every_line(&file, seen)).sum::<usize>();
         }
     }

@@ -1,6 +1,6 @@
 //! Random lines of clients.
 
-use super::{sampling, Profile};
+use super::{sampling, Size};
 use crate::device::{Device, LEVELS};
 use crate::random::Random;
 use crate::requests::REQUESTS;
@@ -78,15 +78,15 @@ const ODD_NAMES: &[&str] =
     &["nosuch", "\\@", "Load", "LOAD", "load\\_", "loa", "load,load2", ",", "/load/", "\u{e9}"];
 
 /// A line of a client that is connected.
-pub fn line(random: &mut Random, device: &Device, profile: &Profile) -> Vec<u8> {
+pub fn line(random: &mut Random, device: &Device, size: &Size) -> Vec<u8> {
     match random.below(1000) {
         0..=519 => sampling_line(random, device),
-        520..=769 => request(random, device, profile).into_bytes(),
+        520..=769 => request(random, device, size).into_bytes(),
         770..=789 => other_request(random).into_bytes(),
-        790..=879 => malformed(random, device, profile),
+        790..=879 => malformed(random, device, size),
         880..=899 => not_a_request(random),
         900..=919 => random.pick(&["", " ", "\t", "  \t \t", "        "]).as_bytes().to_vec(),
-        920..=949 => long_line(random, profile),
+        920..=949 => long_line(random, size),
         950..=953 => finish(random, "halt", &[]).into_bytes(),
         954..=959 => finish(random, "restart", &[]).into_bytes(),
         _ => sampling_query(random, device).into_bytes(),
@@ -147,7 +147,7 @@ fn sampling_query(random: &mut Random, device: &Device) -> String {
 }
 
 /// A known request with right arguments, mostly.
-fn request(random: &mut Random, device: &Device, profile: &Profile) -> String {
+fn request(random: &mut Random, device: &Device, size: &Size) -> String {
     let name = random.pick(&[
         "client-list",
         "help",
@@ -163,9 +163,9 @@ fn request(random: &mut Random, device: &Device, profile: &Profile) -> String {
         "watchdog",
     ]);
     let mut arguments = match name {
-        "help" if !random.chance(profile.all_queries) => vec![help_name(random)],
+        "help" if !random.chance(size.all_queries) => vec![help_name(random)],
         "log-level" if random.chance(750) => vec![level(random)],
-        "sensor-list" | "sensor-value" if !random.chance(profile.all_queries) => {
+        "sensor-list" | "sensor-value" if !random.chance(size.all_queries) => {
             vec![asked_names(random, device)]
         }
         _ => vec![],
@@ -257,8 +257,8 @@ fn not_a_request(random: &mut Random) -> Vec<u8> {
 }
 
 /// A line that most likely is no message.
-fn malformed(random: &mut Random, device: &Device, profile: &Profile) -> Vec<u8> {
-    let good = request(random, device, profile);
+fn malformed(random: &mut Random, device: &Device, size: &Size) -> Vec<u8> {
+    let good = request(random, device, size);
     match random.below(9) {
         0 => format!("?{}{} x", random.pick(&REQUESTS), random.pick(BAD_IDS)).into_bytes(),
         1 => format!("?{} x", random.pick(BAD_NAMES)).into_bytes(),
@@ -304,8 +304,8 @@ fn with_odd_byte(random: &mut Random, mut line: Vec<u8>) -> Vec<u8> {
 }
 
 /// A line of about 2,048 bytes.
-fn long_line(random: &mut Random, profile: &Profile) -> Vec<u8> {
-    if !random.chance(profile.long_lines) {
+fn long_line(random: &mut Random, size: &Size) -> Vec<u8> {
+    if !random.chance(size.long_lines) {
         return b"?watchdog \t ".to_vec();
     }
     let length = random.pick(&[2047, 2048, 2048, 2049, 2049, 2050, 3000, 4096]);

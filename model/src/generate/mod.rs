@@ -16,7 +16,7 @@ use bursts::Burst;
 
 /// How large the scripts and their answers may be.
 #[derive(Clone, Copy)]
-pub struct Profile {
+pub struct Size {
     pub calls: usize,
     pub most_sensors: usize,
     /// Queries of all sensors or all requests, in a thousand.
@@ -25,15 +25,15 @@ pub struct Profile {
     pub long_lines: u64,
 }
 
-impl Profile {
+impl Size {
     /// For comparing: everything, up to 32 sensors.
-    pub fn full(calls: usize) -> Profile {
-        Profile { calls, most_sensors: 32, all_queries: 300, long_lines: 1000 }
+    pub fn full(calls: usize) -> Size {
+        Size { calls, most_sensors: 32, all_queries: 300, long_lines: 1000 }
     }
 
     /// For storing: few sensors, few long answers.
-    pub fn small(calls: usize) -> Profile {
-        Profile { calls, most_sensors: 5, all_queries: 120, long_lines: 60 }
+    pub fn small(calls: usize) -> Size {
+        Size { calls, most_sensors: 5, all_queries: 120, long_lines: 60 }
     }
 }
 
@@ -138,16 +138,16 @@ const BAD_CALLS: &[&str] = &[
 struct Generator {
     random: Random,
     session: Session,
-    profile: Profile,
+    size: Size,
     lines: Vec<Vec<u8>>,
     burst: Option<Burst>,
 }
 
 /// A random script: its lines without their ends. It begins with an `open`.
-pub fn script(seed: u64, profile: Profile) -> Vec<Vec<u8>> {
-    let mut generator = Generator::new(seed, profile);
+pub fn script(seed: u64, size: Size) -> Vec<Vec<u8>> {
+    let mut generator = Generator::new(seed, size);
     generator.open();
-    while generator.lines.len() < profile.calls {
+    while generator.lines.len() < size.calls {
         generator.step();
     }
     generator.lines
@@ -155,9 +155,9 @@ pub fn script(seed: u64, profile: Profile) -> Vec<Vec<u8>> {
 
 impl Generator {
     /// Before its first call.
-    fn new(seed: u64, profile: Profile) -> Generator {
+    fn new(seed: u64, size: Size) -> Generator {
         let (random, session) = (Random::new(seed), Session::default());
-        Generator { random, session, profile, lines: Vec::new(), burst: None }
+        Generator { random, session, size, lines: Vec::new(), burst: None }
     }
 
     /// The device as it is after the calls so far.
@@ -199,9 +199,9 @@ impl Generator {
     fn open(&mut self) {
         self.burst = None;
         let sheet = if self.random.chance(300) && !self.lines.is_empty() {
-            sheets::broken(&mut self.random, &self.profile)
+            sheets::broken(&mut self.random, &self.size)
         } else {
-            sheets::good(&mut self.random, &self.profile).bytes()
+            sheets::good(&mut self.random, &self.size).bytes()
         };
         self.add(Call::Open { sheet });
     }
@@ -279,7 +279,7 @@ impl Generator {
     /// A client's line.
     fn line(&mut self) {
         let (lent, client) = (self.lent(), self.client());
-        let line = lines::line(&mut self.random, &self.session.device, &self.profile);
+        let line = lines::line(&mut self.random, &self.session.device, &self.size);
         self.add(Call::Line { lent, client, line });
     }
 
@@ -294,13 +294,13 @@ impl Generator {
             1 => "abcdefghijklmnopqrstuvwxyz012345",
             _ => random.pick(&["lift.door", "katcp", "a", "-", "_"]),
         };
-        let (logger, message) = (logger.as_bytes().to_vec(), log_message(random, &self.profile));
+        let (logger, message) = (logger.as_bytes().to_vec(), log_message(random, &self.size));
         self.add(Call::Log { lent, level, logger, message });
     }
 
     /// A line of the script that is no call.
     fn bad_entry(&mut self) {
-        if self.random.chance(self.profile.long_lines / 20) {
+        if self.random.chance(self.size.long_lines / 20) {
             let length = self.random.pick(&[65_536, 65_537, 70_000]);
             let mut line = self
                 .random
@@ -336,11 +336,11 @@ fn bad_address(random: &mut Random) -> Vec<u8> {
 }
 
 /// "message over 256 or outside 0x20–0x7E, 9, 10, 13", at times.
-fn log_message(random: &mut Random, profile: &Profile) -> Vec<u8> {
+fn log_message(random: &mut Random, size: &Size) -> Vec<u8> {
     match random.below(30) {
         0 => random.pick(&["\u{0}", "a\x1b", "\x7f", "\u{e9}", "\x0b", "\x1f"]).into(),
-        1 if random.chance(profile.long_lines) => vec![b'm'; random.pick(&[255, 256, 257, 300])],
-        2 if random.chance(profile.long_lines) => vec![b'\\'; 256],
+        1 if random.chance(size.long_lines) => vec![b'm'; random.pick(&[255, 256, 257, 300])],
+        2 if random.chance(size.long_lines) => vec![b'\\'; 256],
         3 => Vec::new(),
         4..=6 => b"tab\tline\nreturn\rback\\slash ~".to_vec(),
         _ => random.pick(&["Door closed.", "a", " ", "\\", "\n", "~ ~"]).into(),

@@ -1,6 +1,6 @@
 //! Lists of calls with one dispatcher, which differ in the others: document 02, (i), "Others on the line".
 
-use super::{Generator, Profile};
+use super::{Generator, Size};
 use crate::random::Random;
 use crate::script::{read_entry, Call, Entry, Session};
 use crate::tally::request_of;
@@ -33,16 +33,16 @@ fn ends_all(call: &Call, number: u8) -> bool {
 }
 
 /// Random lists with one dispatcher.
-pub fn one_dispatcher(seed: u64, profile: Profile) -> OneDispatcher {
+pub fn one_dispatcher(seed: u64, size: Size) -> OneDispatcher {
     let mut random = Random::new(!seed);
     let dispatcher = match random.below(20) {
         0 => 8,
         1..=4 => random.below(8),
         _ => random.below(3),
     };
-    let first = Generator::new(seed, profile).first_list(dispatcher);
+    let first = Generator::new(seed, size).first_list(dispatcher);
     let shared: Vec<Call> = first.iter().filter(|call| is_shared(call, dispatcher)).cloned().collect();
-    let second = Generator::new(random.bits(), profile).second_list(&shared, dispatcher);
+    let second = Generator::new(random.bits(), size).second_list(&shared, dispatcher);
     OneDispatcher { dispatcher, lists: [first, second, shared] }
 }
 
@@ -50,8 +50,8 @@ impl Generator {
     /// A list in which others end no connections.
     fn first_list(mut self, dispatcher: u64) -> Vec<Call> {
         self.open();
-        let mut tries = self.profile.calls * 2;
-        while self.lines.len() < self.profile.calls && tries > 0 {
+        let mut tries = self.size.calls * 2;
+        while self.lines.len() < self.size.calls && tries > 0 {
             self.step_if(|call, number| {
                 !matches!(call, Call::Open { .. }) && (is_shared(call, dispatcher) || !ends_all(call, number))
             });

@@ -1,6 +1,6 @@
 //! Random sheets, good ones and broken ones.
 
-use super::Profile;
+use super::Size;
 use crate::plan::{Plan, PlannedSensor};
 use crate::random::Random;
 
@@ -38,12 +38,12 @@ const VERSIONS: &[&str] =
     &["lgu-1.0", "b7", "!", "~", "\\", "a\\_b", "katcp-device", "x@y[1]", "12345678901234567890123456789012"];
 const NAME_BYTES: &[u8] = b"abcxyzABCXYZ0189.-_";
 
-/// A good sheet with as many sensors as the profile likes.
-pub fn good(random: &mut Random, profile: &Profile) -> Plan {
+/// A good sheet with as many sensors as the size allows.
+pub fn good(random: &mut Random, size: &Size) -> Plan {
     let api = random.pick(VERSIONS);
     let build = random.pick(VERSIONS);
     let mut plan = Plan::new(api.as_bytes(), build.as_bytes());
-    for _ in 0..sensor_count(random, profile) {
+    for _ in 0..sensor_count(random, size) {
         let sensor = sensor(random, &plan);
         plan.add(sensor);
     }
@@ -51,15 +51,15 @@ pub fn good(random: &mut Random, profile: &Profile) -> Plan {
 }
 
 /// How many sensors: few mostly, none or all 32 at times.
-fn sensor_count(random: &mut Random, profile: &Profile) -> usize {
+fn sensor_count(random: &mut Random, size: &Size) -> usize {
     let count = match random.below(100) {
         0..=2 => 0,
         3..=64 => 1 + random.place(5),
         65..=87 => 6 + random.place(10),
         _ => 32,
     };
-    if count > profile.most_sensors {
-        1 + random.place(profile.most_sensors)
+    if count > size.most_sensors {
+        1 + random.place(size.most_sensors)
     } else {
         count
     }
@@ -123,8 +123,8 @@ fn options(random: &mut Random) -> Vec<Vec<u8>> {
 }
 
 /// A sheet that most likely breaks a rule of the layout.
-pub fn broken(random: &mut Random, profile: &Profile) -> Vec<u8> {
-    let mut plan = good(random, profile);
+pub fn broken(random: &mut Random, size: &Size) -> Vec<u8> {
+    let mut plan = good(random, size);
     if random.chance(250) || plan.sensors.is_empty() {
         break_head(random, &mut plan);
     } else if random.chance(300) {
