@@ -100,7 +100,7 @@ impl Console {
 /// Serves the lines of an input, and prints what client 0 is sent; with
 /// `numbers` also, before that, each line and the number of its call.
 pub fn serve(sheet: &[u8], numbers: bool, input: impl BufRead, mut output: impl Write) -> io::Result<()> {
-    let (number, device) = Device::open(sheet);
+    let (number, device) = Device::open(sheet, 0);
     if number != 0 {
         return Err(io::Error::other("sheet.lgu is not a sheet."));
     }

@@ -24,6 +24,34 @@ pub const START_LEVEL: u8 = WARN;
 /// "clients 0–7".
 pub const CLIENTS: usize = 8;
 
+/// Document 02, (m): "Opening takes a profile, 0 for the present behaviour or 1
+/// for single-client."
+#[derive(Clone, Copy, PartialEq, Eq, Debug)]
+pub enum Profile {
+    Several,
+    Single,
+}
+
+impl Profile {
+    /// "0 for the present behaviour or 1 for single-client"; none where it "is
+    /// neither".
+    fn read(number: u8) -> Option<Profile> {
+        match number {
+            0 => Some(Profile::Several),
+            1 => Some(Profile::Single),
+            _ => None,
+        }
+    }
+
+    /// "`katcp-protocol 5.1-MIB`"; document 02, (m): "Profile 1 writes `5.1-IB`".
+    fn protocol(self) -> &'static str {
+        match self {
+            Profile::Several => "5.1-MIB",
+            Profile::Single => "5.1-IB",
+        }
+    }
+}
+
 /// "per sensor a reading and its time"; document 02, (g): "A reading now brings
 /// its own time, at most the clock".
 #[derive(Clone, Copy, PartialEq, Eq, Debug)]
@@ -51,9 +79,11 @@ pub struct Client {
 
 /// "State: clock (0), halted flag (clear), log level [...], per sensor a
 /// reading and its time [...], clients 0–7, each unconnected (all at first) or
-/// with address text". The visits counted at its end are no part of the machine.
+/// with address text"; and the profile that it was opened with (document 02,
+/// (m)). The visits counted at its end are no part of the machine.
 #[derive(Clone)]
 pub struct Device {
+    pub profile: Profile,
     pub sheet: Sheet,
     pub clock: u64,
     pub halted: bool,
@@ -83,9 +113,10 @@ fn decline_if(condition: bool, number: u8) -> Result<(), u8> {
 
 impl Device {
     /// "The blank state (halted, level off, no sensors, no clients, empty
-    /// texts, all else zero)".
+    /// texts, all else zero)"; so its profile is 0.
     pub fn blank() -> Device {
         Device {
+            profile: Profile::Several,
             sheet: Sheet::default(),
             clock: 0,
             halted: true,
@@ -98,14 +129,18 @@ impl Device {
 
     /// "Opening a sheet returns number and state"; "sheet breaks its layout |
     /// 4 | blank halted state"; "State: clock (0), halted flag (clear), log
-    /// level"; "A fresh sensor is unknown at time 0."
-    pub fn open(sheet: &[u8]) -> (u8, Device) {
+    /// level"; "A fresh sensor is unknown at time 0." Document 02, (m): "31, with
+    /// the blank state as at 4, when the profile is neither, before 4".
+    pub fn open(sheet: &[u8], profile: u8) -> (u8, Device) {
+        let Some(profile) = Profile::read(profile) else {
+            return (31, Device::blank());
+        };
         let Some(sheet) = Sheet::read(sheet) else {
             return (4, Device::blank());
         };
         let fresh = Taken { time: 0, state: State::invalid(Status::Unknown) };
         let readings = vec![fresh; sheet.sensors.len()];
-        (0, Device { sheet, halted: false, level: START_LEVEL, readings, ..Device::blank() })
+        (0, Device { profile, sheet, halted: false, level: START_LEVEL, readings, ..Device::blank() })
     }
 
     /// "output under 65,536 bytes | 2", "device halted | 3".
@@ -131,11 +166,12 @@ impl Device {
         number_of(self.try_connect(lent, client, address, out))
     }
 
-    /// "client above 7 | 5", "connect: connected [...] | 6", "address text | 7";
-    /// "address text (1–48 bytes 0x21–0x7E)". "connect: first the newcomer gets
-    /// `#version-connect katcp-protocol 5.1-MIB`, then `katcp-device` with API
-    /// and build; then the other clients get `#client-connected` with the
-    /// address."
+    /// "connect: connected [...] | 6", "address text | 7"; "address text (1–48
+    /// bytes 0x21–0x7E)". "connect: first the newcomer gets `#version-connect
+    /// katcp-protocol 5.1-MIB`, then `katcp-device` with API and build; then the
+    /// other clients get `#client-connected` with the address." Document 02, (m):
+    /// "6 is not given there"; "No `client-connected` is sent", since under profile
+    /// 1 there are no other clients.
     fn try_connect(
         &mut self,
         lent: usize,
@@ -144,10 +180,11 @@ impl Device {
         out: &mut Vec<u8>,
     ) -> Result<(), u8> {
         self.ready(lent)?;
-        decline_if(client >= CLIENTS, 5)?;
-        decline_if(self.is_connected(client), 6)?;
+        self.has_place_for(client)?;
+        decline_if(self.profile == Profile::Several && self.is_connected(client), 6)?;
         let fits = (1..=48).contains(&address.len()) && address.iter().all(|&byte| sheet::is_visible(byte));
         decline_if(!fits, 7)?;
+        self.displace(client, address, out);
         let others = self.connected();
         for arguments in self.versions() {
             let line = Line::inform("version-connect");
@@ -161,11 +198,22 @@ impl Device {
         Ok(())
     }
 
+    /// Document 02, (m): "A connect while connected gives the old client
+    /// `#disconnect` with `New client connected from`, a space and the newcomer's
+    /// address as one argument, forgets it, and then greets the newcomer".
+    fn displace(&mut self, client: usize, address: &[u8], out: &mut Vec<u8>) {
+        if self.clients[client].take().is_some() {
+            let text = [b"New client connected from ", address].concat();
+            Line::inform("disconnect").with(text).deliver(client, out);
+        }
+    }
+
     /// "the arguments of the two connect informs": "`katcp-protocol 5.1-MIB`,
-    /// then `katcp-device` with API and build".
+    /// then `katcp-device` with API and build"; document 02, (m): "Profile 1
+    /// writes `5.1-IB`".
     pub fn versions(&self) -> [Vec<Vec<u8>>; 2] {
         [
-            vec![b"katcp-protocol".to_vec(), b"5.1-MIB".to_vec()],
+            vec![b"katcp-protocol".to_vec(), self.profile.protocol().into()],
             vec![b"katcp-device".to_vec(), self.sheet.api.clone(), self.sheet.build.clone()],
         ]
     }
@@ -184,9 +232,18 @@ impl Device {
         Ok(())
     }
 
-    /// "client above 7 | 5", "[...] else: not connected | 6".
+    /// "client above 7 | 5"; document 02, (m): "Profile 1 [...] has client 0
+    /// only", "32 when a client above 0 is named under profile 1, in 5's place".
+    fn has_place_for(&self, client: usize) -> Result<(), u8> {
+        match self.profile {
+            Profile::Several => decline_if(client >= CLIENTS, 5),
+            Profile::Single => decline_if(client > 0, 32),
+        }
+    }
+
+    /// "[...] else: not connected | 6".
     fn known(&self, client: usize) -> Result<(), u8> {
-        decline_if(client >= CLIENTS, 5)?;
+        self.has_place_for(client)?;
         decline_if(!self.is_connected(client), 6)
     }
 

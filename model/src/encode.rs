@@ -8,7 +8,8 @@
 //!   it to another quoted text;
 //! - `sheet API BUILD` begins a sheet, `sensor NAME DESCRIPTION UNITS TYPE` adds
 //!   a sensor to it, followed by limits or options (a float's limits with a
-//!   point), and `open` alone opens it; texts may stand without quotes if they
+//!   point), and `open` alone opens it, as does `open sheet` with whatever
+//!   follows, which may be a profile; texts may stand without quotes if they
 //!   have no space;
 //! - a float's value with a point in it, or `nan`, `inf`, `-inf`, is turned into
 //!   its bits.
@@ -50,10 +51,18 @@ fn encode_line(line: &str, plan: &mut Option<Plan>) -> Option<Option<String>> {
         plan.as_mut()?.add(planned_sensor(&words(rest)?)?);
         return Some(None);
     }
-    if line == "open" {
-        return Some(Some(format!("open {}", hex(&plan.as_ref()?.bytes()))));
+    if let Some(behind) = behind_opening(line) {
+        return Some(Some(format!("open {}{behind}", hex(&plan.as_ref()?.bytes()))));
     }
     Some(Some(with_bits(&with_hex(line)?)?))
+}
+
+/// What follows where a line opens the sheet that was described; none where it does not.
+fn behind_opening(line: &str) -> Option<&str> {
+    if line == "open" {
+        return Some("");
+    }
+    line.strip_prefix("open sheet").filter(|behind| behind.is_empty() || behind.starts_with(' '))
 }
 
 /// The line with its quoted texts in hex and all else as it is.

@@ -30,5 +30,5 @@ pub mod tells;
 pub mod value;
 pub mod vectors;
 
-pub use device::Device;
+pub use device::{Device, Profile};
 pub use value::Reading;

@@ -1,7 +1,7 @@
 //! Calls and answers with their texts decoded, for people to read.
 
 use crate::number;
-use crate::script::{read_entry, time_word, Call, Entry};
+use crate::script::{last_word, read_entry, Call, Entry};
 use crate::sheet::{Kind, Sheet};
 use crate::value::Reading;
 use std::fmt::Write;
@@ -38,24 +38,30 @@ pub fn entry(line: &[u8]) -> String {
 fn call_text(call: &Call) -> String {
     let verb = call.verb();
     match call {
-        Call::Open { sheet } => sheet_text(sheet),
+        Call::Open { sheet, profile } => opening_text(sheet, &last_word(*profile)),
         Call::Connect { lent, client, address } => format!("{verb} {lent} {client} {}", quoted(address)),
         Call::Log { lent, level, logger, message } => {
             format!("{verb} {lent} {level} {} {}", quoted(logger), quoted(message))
         }
         Call::Line { lent, client, line } => format!("{verb} {lent} {client} {}", quoted(line)),
         Call::Reading { lent, sensor, reading: Reading::Float(value), time } => {
-            format!("{verb} {lent} {sensor} float {value:?}{}", time_word(*time))
+            format!("{verb} {lent} {sensor} float {value:?}{}", last_word(*time))
         }
         _ => call.text(),
     }
 }
 
-/// A sheet in the readable form, or its bytes when it breaks the layout.
-fn sheet_text(bytes: &[u8]) -> String {
-    let Some(sheet) = Sheet::read(bytes) else {
-        return format!("open {} (broken)", quoted(bytes));
-    };
+/// An opening in the readable form, with the sheet's bytes when it breaks the layout.
+fn opening_text(bytes: &[u8], profile: &str) -> String {
+    match Sheet::read(bytes) {
+        None => format!("open {}{profile} (broken)", quoted(bytes)),
+        Some(sheet) if profile.is_empty() => sheet_text(&sheet) + "open",
+        Some(sheet) => format!("{}open sheet{profile}", sheet_text(&sheet)),
+    }
+}
+
+/// A sheet in the readable form.
+fn sheet_text(sheet: &Sheet) -> String {
     let mut text = format!("sheet {} {}\n", quoted(&sheet.api), quoted(&sheet.build));
     for sensor in &sheet.sensors {
         let (name, description) = (quoted(&sensor.name), quoted(&sensor.description));
@@ -73,7 +79,7 @@ fn sheet_text(bytes: &[u8]) -> String {
         }
         text.push('\n');
     }
-    text + "open"
+    text
 }
 
 /// An answer: its number, then each delivery with its client.

@@ -1,6 +1,6 @@
-//! The ten requests.
+//! The ten requests; a device of profile 1 has nine of them.
 
-use crate::device::{Device, LEVELS, START_LEVEL};
+use crate::device::{Device, Profile, LEVELS, START_LEVEL};
 use crate::message::{Line, Message, Sort};
 use crate::number;
 use crate::sheet::{Kind, Sensor};
@@ -103,9 +103,16 @@ impl Device {
         Err(refusal.number)
     }
 
+    /// Document 02, (m), of profile 1: "`client-list` gets 14 and `help` omits
+    /// it".
+    fn has_request(&self, name: &[u8]) -> bool {
+        self.profile == Profile::Several || name != b"client-list"
+    }
+
     /// "request unknown | 14 | invalid, Unknown request."
     fn answer(&mut self, asked: &mut Asked) -> Result<(), Refusal> {
         match &asked.message.name[..] {
+            name if !self.has_request(name) => Err(UNKNOWN_REQUEST),
             b"client-list" => self.client_list(asked),
             b"halt" => self.halt(asked),
             b"help" => self.help(asked),
@@ -167,7 +174,8 @@ impl Device {
     fn help(&mut self, asked: &mut Asked) -> Result<(), Refusal> {
         let wanted = asked.optional_argument()?;
         let named = |name: &&&str| wanted.is_none_or(|wanted| wanted == name.as_bytes());
-        let listed: Vec<_> = REQUESTS.iter().filter(named).collect();
+        let known = REQUESTS.iter().filter(|name| self.has_request(name.as_bytes()));
+        let listed: Vec<_> = known.filter(named).collect();
         if listed.is_empty() {
             return Err(UNKNOWN_HELP);
         }

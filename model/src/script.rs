@@ -2,16 +2,17 @@
 
 use crate::device::{Device, LEAST_OUTPUT};
 use crate::value::Reading;
+use std::fmt::Display;
 use std::io::{self, BufRead, Write};
 
 /// The longest line of a script.
 pub const LONGEST: usize = 65_536;
 
 /// A call of a script. A reading whose time is left out has the clock of the
-/// device at hand.
+/// device at hand; an opening whose profile is left out has profile 0.
 #[derive(Clone, PartialEq, Debug)]
 pub enum Call {
-    Open { sheet: Vec<u8> },
+    Open { sheet: Vec<u8>, profile: Option<u8> },
     Connect { lent: u64, client: u64, address: Vec<u8> },
     Disconnect { lent: u64, client: u64 },
     Tick { lent: u64, ms: u64 },
@@ -46,7 +47,9 @@ pub fn read_entry(line: &[u8]) -> Entry {
 fn read_call(line: &[u8]) -> Option<Call> {
     let words: Vec<&[u8]> = line.split(|&byte| byte == b' ').collect();
     match words[..] {
-        [b"open", sheet] => Some(Call::Open { sheet: bytes(sheet)? }),
+        [b"open", sheet, ref profile @ ..] => {
+            Some(Call::Open { sheet: bytes(sheet)?, profile: optional(profile, small)? })
+        }
         [b"connect", lent, client, address] => {
             Some(Call::Connect { lent: unsigned(lent)?, client: unsigned(client)?, address: bytes(address)? })
         }
@@ -58,7 +61,7 @@ fn read_call(line: &[u8]) -> Option<Call> {
             lent: unsigned(lent)?,
             sensor: unsigned(sensor)?,
             reading: read_reading(kind, value)?,
-            time: optional_time(time)?,
+            time: optional(time, unsigned)?,
         }),
         [b"log", lent, level, logger, message] => Some(Call::Log {
             lent: unsigned(lent)?,
@@ -88,12 +91,13 @@ fn read_reading(kind: &[u8], value: &[u8]) -> Option<Reading> {
     }
 }
 
-/// A reading's time, which may be left out. The outer option is empty where the
-/// words behind the value are no time, or more than one.
-fn optional_time(words: &[&[u8]]) -> Option<Option<u64>> {
+/// A last number that may be left out: a profile, a reading's time. The outer
+/// option is empty where the words that are left are no such number, or more
+/// than one.
+fn optional<T>(words: &[&[u8]], read: fn(&[u8]) -> Option<T>) -> Option<Option<T>> {
     match words {
         [] => Some(None),
-        [time] => unsigned(time).map(Some),
+        [word] => read(word).map(Some),
         _ => None,
     }
 }
@@ -196,12 +200,12 @@ impl Call {
     pub fn text(&self) -> String {
         let verb = self.verb();
         match self {
-            Call::Open { sheet } => format!("{verb} {}", hex(sheet)),
+            Call::Open { sheet, profile } => format!("{verb} {}{}", hex(sheet), last_word(*profile)),
             Call::Connect { lent, client, address } => format!("{verb} {lent} {client} {}", hex(address)),
             Call::Disconnect { lent, client } => format!("{verb} {lent} {client}"),
             Call::Tick { lent, ms } => format!("{verb} {lent} {ms}"),
             Call::Reading { lent, sensor, reading, time } => {
-                format!("{verb} {lent} {sensor} {}{}", reading_text(*reading), time_word(*time))
+                format!("{verb} {lent} {sensor} {}{}", reading_text(*reading), last_word(*time))
             }
             Call::Log { lent, level, logger, message } => {
                 format!("{verb} {lent} {level} {} {}", hex(logger), hex(message))
@@ -225,9 +229,9 @@ fn reading_text(reading: Reading) -> String {
     }
 }
 
-/// A reading's time as its call's last word, or nothing where it is left out.
-pub fn time_word(time: Option<u64>) -> String {
-    time.map_or_else(String::new, |time| format!(" {time}"))
+/// A number as its call's last word, or nothing where it is left out.
+pub fn last_word(number: Option<impl Display>) -> String {
+    number.map_or_else(String::new, |number| format!(" {number}"))
 }
 
 /// A device answering a script; before the first `open` it is the blank one.
@@ -247,7 +251,7 @@ impl Session {
     pub fn perform(&mut self, call: &Call) -> u8 {
         let (device, out) = (&mut self.device, &mut self.out);
         match call {
-            Call::Open { sheet } => self.open(sheet),
+            Call::Open { sheet, profile } => self.open(sheet, profile.unwrap_or(0)),
             Call::Connect { lent, client, address } => {
                 device.connect(lend(*lent), *client as usize, address, out)
             }
@@ -265,8 +269,8 @@ impl Session {
     }
 
     /// `open` replaces the device; the visits counted go on.
-    fn open(&mut self, sheet: &[u8]) -> u8 {
-        let (number, device) = Device::open(sheet);
+    fn open(&mut self, sheet: &[u8], profile: u8) -> u8 {
+        let (number, device) = Device::open(sheet, profile);
         let visits = self.device.visits;
         self.device = device;
         self.device.visits = visits;

@@ -44,7 +44,7 @@ struct Unit {
 
 impl Unit {
     fn new(kind: u8, limits: &[i32]) -> Unit {
-        let (number, device) = Device::open(&sheet("load", kind, limits));
+        let (number, device) = Device::open(&sheet("load", kind, limits), 0);
         assert_eq!(number, 0);
         let mut unit = Unit { device, out: Vec::new() };
         assert_eq!(unit.device.connect(LENT, 0, b"console", &mut unit.out), 0);

@@ -15,14 +15,14 @@ const LENT: usize = 65_536;
 fn sheet() -> Vec<u8> {
     let script = encode("sheet lgu-1.0 b7\nsensor load \"\" kg integer 0 1000\nopen\n").unwrap();
     match read_entry(script.trim_end().as_bytes()) {
-        Entry::Call(Call::Open { sheet }) => sheet,
+        Entry::Call(Call::Open { sheet, .. }) => sheet,
         _ => panic!("{script}"),
     }
 }
 
 /// A device at 5.000 that holds a status at 4.000, with `load` under auto for client 0.
 fn holding(status: Status) -> Device {
-    let (mut device, mut out) = (Device::open(&sheet()).1, Vec::new());
+    let (mut device, mut out) = (Device::open(&sheet(), 0).1, Vec::new());
     assert_eq!(device.connect(LENT, 0, b"archive", &mut out), 0);
     assert_eq!(device.tick(LENT, 5000, &mut out), 0);
     device.readings[0] = Taken { time: 4000, state: State { status, value: 0 } };

@@ -203,7 +203,7 @@ impl Generator {
         } else {
             sheets::good(&mut self.random, &self.size).bytes()
         };
-        self.add(Call::Open { sheet });
+        self.add(Call::Open { sheet, profile: None });
     }
 
     /// The length of the lent output: enough mostly.
