@@ -7,10 +7,13 @@
 //! - under auto each reading that superseded is one line more, and no other call but a setting gives a report;
 //! - a reading that came late and was passed over (document 02, (g)) gives no line and is in no bound;
 //! - the clocks that lines show never go back, and each is the clock at the end of its call;
+//! - a file begins with its greeting and goes on to no line behind a `#disconnect`, also where a newcomer displaced
+//!   the client (document 02, (m));
 //! - of a file that is cut anywhere, what is concluded from the lines up to one of them holds at the end of
 //!   the call that gave it, unless that line leaves it open.
 
 use crate::arrival::Arrival;
+use crate::device::Profile;
 use crate::files::{files, File, Moment, Step};
 use crate::generate::{self, Size};
 use crate::readable;
@@ -48,6 +51,9 @@ pub struct Open {
 pub struct Counts {
     pub scripts: u64,
     pub files: u64,
+    /// Files under profile 1, and those of them whose client was displaced.
+    pub single: u64,
+    pub displaced: u64,
     pub lines: u64,
     /// Ends of calls during a connection.
     pub ends: u64,
@@ -103,7 +109,10 @@ pub fn check_file(file: &File, counts: &mut Counts) -> Result<(), String> {
         let read = Told::read(&file.sheet, line);
         told.push(read.ok_or_else(|| format!("cannot be read: {}", readable::quoted(line)))?);
     }
+    begins_and_ends(file)?;
     counts.files += 1;
+    counts.single += u64::from(file.profile == Profile::Single);
+    counts.displaced += u64::from(file.displaced);
     counts.lines += told.len() as u64;
     let readings = vec![(Strategy::None, None); file.sheet.sensors.len()];
     let mut check = Check { file, told, reader: Reader::new(&file.sheet), readings, counts };
@@ -113,6 +122,23 @@ pub fn check_file(file: &File, counts: &mut Counts) -> Result<(), String> {
         from = step.lines;
     }
     check.whole()
+}
+
+/// "from that connect's `#version-connect katcp-protocol` on"; document 02, (m): the newcomer's "lines begin there",
+/// so the `#disconnect` before it is the last line of the old file. No other file has a line behind one either.
+fn begins_and_ends(file: &File) -> Result<(), String> {
+    let greeting: &[u8] = match file.profile {
+        Profile::Several => b"#version-connect katcp-protocol 5.1-MIB",
+        Profile::Single => b"#version-connect katcp-protocol 5.1-IB",
+    };
+    if file.lines.first().is_none_or(|first| first != greeting) {
+        return Err("does not begin with its greeting".to_string());
+    }
+    let farewell = file.lines.iter().position(|line| line.starts_with(b"#disconnect "));
+    if farewell.map_or(file.displaced, |place| place + 1 < file.lines.len()) {
+        return Err("does not end with its farewell".to_string());
+    }
+    Ok(())
 }
 
 impl Check<'_> {
@@ -398,9 +424,12 @@ impl Counts {
     /// The counts, as Markdown.
     pub fn text(&self) -> String {
         let mut text = format!(
-            "{} scripts, {} files, {} lines, {} ends of calls.\n\n| conclusions | {} |\n|{}\n",
+            "{} scripts, {} files, {} of them under profile 1 and {} of these displaced, {} lines, {} ends of \
+             calls.\n\n| conclusions | {} |\n|{}\n",
             self.scripts,
             self.files,
+            self.single,
+            self.displaced,
             self.lines,
             self.ends,
             NAMES.join(" | "),
