@@ -2,6 +2,7 @@
 //! of a difference as short as it gets.
 
 use crate::arrival::Arrival;
+use crate::device::{Client, Device};
 use crate::generate::{self, Size};
 use crate::readable;
 use crate::script::{read_entry, Call, Entry, Session};
@@ -47,9 +48,11 @@ fn model_answers(script: &Script, tally: &mut Tally) -> Vec<(usize, Vec<u8>)> {
 /// Performs a call, counts it, and gives its answer.
 fn counted_answer(session: &mut Session, call: &Call, tally: &mut Tally) -> Vec<u8> {
     let (request, arrival) = (request_of(call), Arrival::of(&session.device, call));
+    let old = connected_before(&session.device, call);
     let number = session.perform(call);
-    let reached = number == 0 || number >= 14;
+    let reached = number == 0 || (14..=23).contains(&number);
     tally.count(call, number, request.as_ref().filter(|_| reached));
+    tally.count_profile(&session.device, call, number, old.as_ref());
     if let (0, Some(arrival)) = (number, &arrival) {
         tally.count_arrival(&session.device, arrival);
     }
@@ -58,6 +61,12 @@ fn counted_answer(session: &mut Session, call: &Call, tally: &mut Tally) -> Vec<
         tally.count_names(request);
     }
     format!("{} {}", number, crate::script::hex(&session.out)).into_bytes()
+}
+
+/// The client that a connect names, where it is connected already.
+fn connected_before(device: &Device, call: &Call) -> Option<Client> {
+    let Call::Connect { client, .. } = call else { return None };
+    device.clients.get(usize::try_from(*client).ok()?)?.clone()
 }
 
 /// The other program's answers to scripts, one after another.

@@ -1,12 +1,12 @@
-//! What came up in a run: numbers, calls, readings, requests, visits, statuses.
+//! What came up in a run: numbers, calls, profiles, readings, requests, visits, statuses.
 
 use crate::arrival::Arrival;
-use crate::device::Device;
+use crate::device::{Client, Device};
 use crate::message::{Message, Sort};
 use crate::requests::REQUESTS;
 use crate::script::{Call, Session};
 use crate::sheet::Kind;
-use crate::strategy::{Occasion, Strategy, NAMES};
+use crate::strategy::{Occasion, Strategy, Subscription, NAMES};
 use crate::value::{Status, STATUSES};
 use std::collections::BTreeMap;
 use std::fmt::Write;
@@ -36,13 +36,27 @@ impl Visits {
     }
 }
 
+/// What came up under one profile: document 02, (m).
+#[derive(Clone, Copy, Default, PartialEq, Eq, Debug)]
+pub struct OfProfile {
+    /// Sheets that were opened with it.
+    pub opened: u64,
+    /// Calls on a device of it.
+    pub calls: u64,
+    /// Connects that displaced a client, and those of its pairs that were forgotten: with a strategy but none, or with
+    /// a last report.
+    pub displaced: u64,
+    pub forgotten: u64,
+}
+
 /// Everything counted over many scripts.
 #[derive(Default)]
 pub struct Tally {
     pub scripts: u64,
-    pub numbers: [u64; 27],
+    pub numbers: BTreeMap<u8, u64>,
     pub errors: u64,
     pub calls: BTreeMap<&'static str, u64>,
+    pub profiles: [OfProfile; 2],
     pub requests: BTreeMap<(String, u8), u64>,
     pub settings: [[u64; 5]; 7],
     /// Lists of `sensor-list` and `sensor-value` that were answered, by the count of their names.
@@ -58,12 +72,30 @@ pub struct Tally {
 impl Tally {
     /// Counts one call with its number; the session has already performed it.
     pub fn count(&mut self, call: &Call, number: u8, before: Option<&Message>) {
-        self.numbers[usize::from(number)] += 1;
+        *self.numbers.entry(number).or_default() += 1;
         *self.calls.entry(call.verb()).or_default() += 1;
         if let Some(message) = before {
             let name = String::from_utf8_lossy(&message.name).into_owned();
             let shown = if REQUESTS.contains(&&name[..]) { name } else { "(any other)".to_string() };
             *self.requests.entry((shown, number)).or_default() += 1;
+        }
+    }
+
+    /// Counts a call by the profile of the device, which has performed it; with the client before it, where it is a
+    /// connect of one that was connected.
+    pub fn count_profile(&mut self, device: &Device, call: &Call, number: u8, old: Option<&Client>) {
+        let counts = &mut self.profiles[device.profile as usize];
+        match (call, number, old) {
+            (Call::Open { .. }, 0, _) => counts.opened += 1,
+            (Call::Open { .. }, ..) => {}
+            (_, number, old) => {
+                counts.calls += 1;
+                if let (0, Some(old)) = (number, old) {
+                    let forgotten = old.subscriptions.iter().filter(|&&pair| pair != Subscription::START);
+                    counts.displaced += 1;
+                    counts.forgotten += forgotten.count() as u64;
+                }
+            }
         }
     }
 
@@ -119,6 +151,7 @@ impl Tally {
             format!("{} scripts, {} calls, {} lines that are no call.\n", self.scripts, calls, self.errors);
         self.write_numbers(&mut text);
         self.write_calls(&mut text);
+        self.write_profiles(&mut text);
         self.write_arrivals(&mut text);
         self.write_visits(&mut text);
         self.write_settings(&mut text);
@@ -128,11 +161,12 @@ impl Tally {
         text
     }
 
-    /// "Every row returns its number"; no call of a script reaches 1, 24 and 25.
+    /// "Every row returns its number"; no call of a script reaches 1, 24, 25 and 27 to 30.
     fn write_numbers(&self, text: &mut String) {
         table(text, &["number", "times"]);
-        let reached = |number: &usize| ![1, 24, 25].contains(number);
-        for (number, times) in self.numbers.iter().enumerate().filter(|(number, _)| reached(number)) {
+        let reached = |number: &u8| ![1, 24, 25, 27, 28, 29, 30].contains(number);
+        for number in (0..=32).filter(reached) {
+            let times = self.numbers.get(&number).unwrap_or(&0);
             row(text, &[number.to_string(), times.to_string()]);
         }
         row(text, &["error".to_string(), self.errors.to_string()]);
@@ -143,6 +177,16 @@ impl Tally {
         table(text, &["call", "times"]);
         for (verb, times) in &self.calls {
             row(text, &[verb.to_string(), times.to_string()]);
+        }
+    }
+
+    /// What came up under each profile.
+    fn write_profiles(&self, text: &mut String) {
+        table(text, &["profile", "opened", "calls", "clients displaced", "pairs forgotten by it"]);
+        for (number, counts) in self.profiles.iter().enumerate() {
+            let OfProfile { opened, calls, displaced, forgotten } = *counts;
+            let cells = [number as u64, opened, calls, displaced, forgotten];
+            row(text, &cells.map(|cell| cell.to_string()));
         }
     }
 
