@@ -398,11 +398,12 @@ fn every_line(file: &File, seen: usize) -> usize {
     concluded
 }
 
-/// Generated scripts: nothing is false, each place and strategy came up, and so did each exception.
+/// Generated scripts: nothing is false, each place and strategy came up, and so did each exception. One device in three
+/// has one client alone (document 02, (m)) and so fewer files: half as many scripts more make up for it.
 #[test]
 fn generated_files_tell_what_the_device_held() {
-    let (counts, found) = check_all(0..100, 300);
-    assert_eq!((counts.scripts, found), (100, vec![]));
+    let (counts, found) = check_all(0..150, 300);
+    assert_eq!((counts.scripts, found), (150, vec![]));
     for by_strategy in counts.conclusions {
         assert_eq!((by_strategy[0], by_strategy[2]), (0, 0));
         assert!([1, 3, 4, 5, 6].iter().all(|&strategy| by_strategy[strategy] > 100), "{by_strategy:?}");

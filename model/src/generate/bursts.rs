@@ -1,4 +1,5 @@
-//! Bursts of readings of one sensor that come out of order: document 02, (g), "a bus that reorders".
+//! Calls about one sensor that belong together: bursts of readings that come out of order (document 02, (g), "a bus
+//! that reorders"), and what is asked behind a connect that displaced a client (document 02, (m)).
 
 use super::{lines, readings, Generator};
 use crate::device::Device;
@@ -7,9 +8,15 @@ use crate::script::Call;
 use crate::value::Reading;
 
 /// A call of a burst that is still to come.
-enum Next {
+pub(super) enum Next {
     /// A reading of this time.
     Reading(u64),
+    /// This reading, at the clock.
+    Given(Reading),
+    /// A tick to this time.
+    Tick(u64),
+    /// `?sensor-sampling` with the name alone, which shows the strategy.
+    Queried,
     /// A reading older than the stored one.
     Older,
     /// `?sensor-value`, which shows the stored time.
@@ -19,9 +26,9 @@ enum Next {
 }
 
 /// A sensor, and the calls still to come, the next one last.
-pub struct Burst {
-    sensor: usize,
-    calls: Vec<Next>,
+pub(super) struct Burst {
+    pub(super) sensor: usize,
+    pub(super) calls: Vec<Next>,
 }
 
 impl Generator {
@@ -54,6 +61,18 @@ impl Generator {
         let stored = self.device().readings[sensor].time;
         match next {
             Next::Reading(time) => self.reading_at(sensor, time),
+            Next::Given(reading) => {
+                let lent = self.lent();
+                self.add(Call::Reading { lent, sensor: sensor as u64, reading, time: None });
+            }
+            Next::Tick(ms) => {
+                let (lent, ms) = (self.lent(), ms.max(self.device().clock));
+                self.add(Call::Tick { lent, ms });
+            }
+            Next::Queried => {
+                let line = format!("?sensor-sampling {}", lines::sensor_name(self.device(), sensor));
+                self.line_of(line.into_bytes());
+            }
             Next::Older => {
                 let earlier = 1 + self.random.pick(&[0, 0, 1, 1000]);
                 self.reading_at(sensor, stored.saturating_sub(earlier));

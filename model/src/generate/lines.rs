@@ -1,7 +1,7 @@
 //! Random lines of clients.
 
 use super::{sampling, Size};
-use crate::device::{Device, LEVELS};
+use crate::device::{Device, Profile, LEVELS};
 use crate::random::Random;
 use crate::requests::REQUESTS;
 
@@ -163,14 +163,15 @@ fn request(random: &mut Random, device: &Device, size: &Size) -> String {
         "watchdog",
     ]);
     let mut arguments = match name {
-        "help" if !random.chance(size.all_queries) => vec![help_name(random)],
+        "help" if !random.chance(size.all_queries) => vec![help_name(random, device)],
         "log-level" if random.chance(750) => vec![level(random)],
         "sensor-list" | "sensor-value" if !random.chance(size.all_queries) => {
             vec![asked_names(random, device)]
         }
         _ => vec![],
     };
-    if random.chance(70) {
+    let single_list = name == "client-list" && device.profile == Profile::Single;
+    if random.chance(if single_list { 400 } else { 70 }) {
         let more = 1 + random.place(2);
         arguments.extend((0..more).map(|_| random.pick(ARGUMENTS).to_string()));
     }
@@ -183,8 +184,11 @@ fn request(random: &mut Random, device: &Device, size: &Size) -> String {
     finish(random, name, &arguments)
 }
 
-/// A name for `help`.
-fn help_name(random: &mut Random) -> String {
+/// A name for `help`; under profile 1 oftener the request that it does not have.
+fn help_name(random: &mut Random, device: &Device) -> String {
+    if device.profile == Profile::Single && random.chance(250) {
+        return "client-list".to_string();
+    }
     if random.chance(250) {
         return random.pick(UNKNOWN).to_string();
     }

@@ -8,8 +8,9 @@ pub mod others;
 mod readings;
 mod sampling;
 mod sheets;
+mod single;
 
-use crate::device::Device;
+use crate::device::{Device, Profile};
 use crate::random::Random;
 use crate::script::{Call, Session};
 use bursts::Burst;
@@ -125,6 +126,30 @@ const BAD_CALLS: &[&str] = &[
     "open 4",
     "open 4G",
     "open - -",
+    "open - ",
+    "open - -1",
+    "open - +1",
+    "open - 00",
+    "open - 01",
+    "open - 001",
+    "open - 0x1",
+    "open - 1.0",
+    "open - 1 ",
+    "open -  1",
+    "open - 1 1",
+    "open - 256",
+    "open - single",
+    "open - 18446744073709551616",
+    "open 4 1",
+    "open 1 ",
+    "open 4c475500010161016200 -",
+    "open 4c475500010161016200 ",
+    "open 4c475500010161016200 01",
+    "open 4c475500010161016200 256",
+    "open 4c475500010161016200 257",
+    "open 4c475500010161016200 4294967297",
+    "open 4c475500010161016200 18446744073709551617",
+    "open 4c475500010161016200 1 1",
     "close",
     "opens -",
     "\u{e9}",
@@ -187,6 +212,7 @@ impl Generator {
             240..=529 => self.reading(),
             530..=899 => self.line(),
             900..=939 => self.log(),
+            940..=979 if self.keeps_its_one_client() => self.line(),
             940..=966 => self.connect(),
             967..=979 => self.disconnect(),
             980..=991 => self.bad_entry(),
@@ -195,15 +221,18 @@ impl Generator {
         }
     }
 
-    /// A sheet: good mostly. A burst ends with its device.
+    /// A sheet, good mostly, and a profile; the first device is opened. A burst ends with its device.
     fn open(&mut self) {
         self.burst = None;
-        let sheet = if self.random.chance(300) && !self.lines.is_empty() {
+        let first = self.lines.is_empty();
+        let profile = single::profile(&mut self.random, first);
+        let broken = if single::is_refused(profile) { 500 } else { 300 };
+        let sheet = if self.random.chance(broken) && !first {
             sheets::broken(&mut self.random, &self.size)
         } else {
             sheets::good(&mut self.random, &self.size).bytes()
         };
-        self.add(Call::Open { sheet, profile: None });
+        self.add(Call::Open { sheet, profile });
     }
 
     /// The length of the lent output: enough mostly.
@@ -220,6 +249,9 @@ impl Generator {
 
     /// A client that is connected, mostly.
     fn client(&mut self) -> u64 {
+        if self.device().profile == Profile::Single {
+            return single::client(&mut self.random, &self.session.device);
+        }
         let connected = self.device().connected();
         if connected.is_empty() || self.random.chance(30) {
             return self.random.pick(&[0, 1, 2, 3, 7, 7, 8, 9, 255, 256, 257, 1 << 32, u64::MAX]);
@@ -227,8 +259,12 @@ impl Generator {
         self.random.pick(&connected) as u64
     }
 
-    /// A client that is not connected, mostly; one of the first few, mostly.
+    /// A client that is not connected, mostly; one of the first few, mostly. Under profile 1 the one that it has,
+    /// connected or not, mostly.
     fn newcomer(&mut self) -> u64 {
+        if self.device().profile == Profile::Single {
+            return single::client(&mut self.random, &self.session.device);
+        }
         let free: Vec<u64> = (0..8).filter(|&client| !self.device().is_connected(client as usize)).collect();
         if free.is_empty() || self.random.chance(130) {
             return self.client();
@@ -240,15 +276,19 @@ impl Generator {
         self.random.pick(&free)
     }
 
-    /// A connect with a right address, mostly.
+    /// A connect with a right address, mostly. Where it displaces a client, calls follow that show what is forgotten.
     fn connect(&mut self) {
         let (lent, client) = (self.lent(), self.newcomer());
         let address = match self.random.below(10) {
             0 => bad_address(&mut self.random),
             1 => vec![b'\\'; 48],
+            2 if self.device().profile == Profile::Single => single::address(&mut self.random),
+            3 if self.device().profile == Profile::Single => bad_address(&mut self.random),
             _ => self.random.pick(&["console", "10.0.0.7:5000", "[::1]:80", "a", "~", "a\\_b", "!"]).into(),
         };
+        let behind = self.calls_behind_displacing();
         self.add(Call::Connect { lent, client, address });
+        self.burst = behind.or(self.burst.take());
     }
 
     /// A disconnect.

@@ -1,6 +1,7 @@
 //! Lists of calls with one dispatcher, which differ in the others: document 02, (i), "Others on the line".
 
 use super::{Generator, Size};
+use crate::device::Profile;
 use crate::random::Random;
 use crate::script::{read_entry, Call, Entry, Session};
 use crate::tally::request_of;
@@ -32,24 +33,32 @@ fn ends_all(call: &Call, number: u8) -> bool {
     ends && number == 0
 }
 
-/// Random lists with one dispatcher.
+/// Random lists with one dispatcher, "compared within one profile" (document 02, (m)): the opening is shared.
 pub fn one_dispatcher(seed: u64, size: Size) -> OneDispatcher {
     let mut random = Random::new(!seed);
-    let dispatcher = match random.below(20) {
-        0 => 8,
-        1..=4 => random.below(8),
-        _ => random.below(3),
-    };
-    let first = Generator::new(seed, size).first_list(dispatcher);
+    let mut first = Generator::new(seed, size);
+    first.open();
+    let dispatcher = dispatcher(&mut random, first.device().profile);
+    let first = first.first_list(dispatcher);
     let shared: Vec<Call> = first.iter().filter(|call| is_shared(call, dispatcher)).cloned().collect();
     let second = Generator::new(random.bits(), size).second_list(&shared, dispatcher);
     OneDispatcher { dispatcher, lists: [first, second, shared] }
 }
 
+/// A dispatcher that can connect, mostly; under profile 1 client 0 alone can.
+fn dispatcher(random: &mut Random, profile: Profile) -> u64 {
+    match (random.below(20), profile) {
+        (0, _) => 8,
+        (1, Profile::Single) => random.below(8),
+        (_, Profile::Single) => 0,
+        (1..=4, _) => random.below(8),
+        _ => random.below(3),
+    }
+}
+
 impl Generator {
-    /// A list in which others end no connections.
+    /// A list, from its opening on, in which others end no connections.
     fn first_list(mut self, dispatcher: u64) -> Vec<Call> {
-        self.open();
         let mut tries = self.size.calls * 2;
         while self.lines.len() < self.size.calls && tries > 0 {
             self.step_if(|call, number| {
