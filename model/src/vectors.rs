@@ -20,6 +20,7 @@ const BY_HAND: &[(&str, &str)] = &[
     ("differences", include_str!("../vectors/differences.txt")),
     ("others", include_str!("../vectors/others.txt")),
     ("late", include_str!("../vectors/late.txt")),
+    ("single", include_str!("../vectors/single.txt")),
     ("guideline", include_str!("../vectors/guideline.txt")),
     ("script", include_str!("../vectors/script.txt")),
 ];
