@@ -69,12 +69,14 @@ impl Generator {
         self.calls()
     }
 
-    /// The shared calls, with calls of others before, between and behind them.
+    /// The shared calls, with calls of others before, between and behind them; under profile 1 these are tried oftener,
+    /// since most that are tried name client 0.
     fn second_list(mut self, shared: &[Call], dispatcher: u64) -> Vec<Call> {
         for call in shared {
             let lent_anew = self.lent_anew(call.clone());
             self.add(lent_anew);
-            for _ in 0..self.random.below(5) {
+            let tries = if self.device().profile == Profile::Single { 20 } else { 5 };
+            for _ in 0..self.random.below(tries) {
                 self.step_if(|call, number| !is_shared(call, dispatcher) && !ends_all(call, number));
             }
         }
