@@ -276,7 +276,7 @@ impl Generator {
         self.random.pick(&free)
     }
 
-    /// A connect with a right address, mostly. Where it displaces a client, calls follow that show what is forgotten.
+    /// A connect with a right address, mostly. Under profile 1, while connected, calls follow that show what is forgotten.
     fn connect(&mut self) {
         let (lent, client) = (self.lent(), self.newcomer());
         let address = match self.random.below(10) {

@@ -52,8 +52,8 @@ impl Generator {
         one && self.random.chance(450)
     }
 
-    /// The calls that show whether a displaced client's pair is forgotten; none where it has no strategy. They are chosen
-    /// by the device before the newcomer comes.
+    /// What follows a connect while connected: calls that show whether a pair of the old client is forgotten, or kept
+    /// where the connect is declined. They are chosen by the device before it; none where no pair has a strategy.
     pub(super) fn calls_behind_displacing(&mut self) -> Option<Burst> {
         let device = &self.session.device;
         if device.profile != Profile::Single || !device.is_connected(0) {
