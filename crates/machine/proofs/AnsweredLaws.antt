@@ -31,12 +31,13 @@ use Rattle.machine.proofs.TestLaws.{none-some, cond-either}
 use Rattle.machine.proofs.StepLaws.{nameFor, request-name, request-found, other-kind, request-asked}
 use Rattle.machine.proofs.FileLaws.{line-parses}
 use Rattle.machine.proofs.QuietLaws.{code-not-ok}
+use Rattle.machine.specs.Opening.{Start}
 
 -- the deliveries in the bytes that a call counts are those that it sent
-pub packets-are : (bytes : List ℕ) (h : List Call) (call : Call) → Short (map packet (step (after bytes h) call .sent))
-    → packetsOf bytes h call ≡ map packet (step (after bytes h) call .sent)
+pub packets-are : (start : Start) (h : List Call) (call : Call) → Short (map packet (step (after start h) call .sent))
+    → packetsOf start h call ≡ map packet (step (after start h) call .sent)
 unfolding packetsOf
-packets-are bytes h call short = ap cut (take-append-seam (written (step (after bytes h) call)) _) ∙ cut-deliveries (step (after bytes h) call .sent) short
+packets-are start h call short = ap cut (take-append-seam (written (step (after start h) call)) _) ∙ cut-deliveries (step (after start h) call .sent) short
 
 -- a reply of success among deliveries
 unfoldable pub okIn : List ℕ → ℕ → List Delivery → Bool
@@ -64,7 +65,7 @@ refused-not-ok name c s n (Disconnect k) = refl
 refused-not-ok name c s n (Tick t) = refl
 refused-not-ok name c s n (Reading j r) = refl
 refused-not-ok name c s n (Log level logger said) = refl
-refused-not-ok name c s n (Line k line) = cond-either (λ ds. okIn name c ds ≡ false) (ltb n 12) [] (lineRefusal (s .clock) k n (asked line)) refl (go (asked line))
+refused-not-ok name c s n (Line k line) = cond-either (λ ds. okIn name c ds ≡ false) (ltb n 12 || ltb 23 n) [] (lineRefusal (s .clock) k n (asked line)) refl (go (asked line))
   where
     go : (w : Asked) → okIn name c (lineRefusal (s .clock) k n w) ≡ false
     go Nothing = refl

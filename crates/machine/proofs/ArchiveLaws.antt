@@ -13,18 +13,21 @@ use Rattle.message.specs.Delivery.{Delivery, packet}
 use Rattle.line.specs.Line.{message, parse, WellFormed}
 use Rattle.machine.specs.declared.Sheet.{Sheet}
 use Rattle.machine.specs.declared.Strategy.{Strategy}
-use Rattle.machine.specs.Places.{Each, any, has, twice}
+use Rattle.machine.specs.Places.{Each, any, has, twice, fromFirst}
 use Rattle.machine.specs.Sheet.{sensorOf, notOnSheet}
 use Rattle.machine.specs.Range.{strategyOk}
 use Rattle.machine.specs.Requests.{strategyNamed, parameterCount, strategyBy, firstOf}
 use Rattle.machine.specs.Declined.{Call}
 use Rattle.machine.specs.Machine.{step}
 use Rattle.machine.specs.Reader.{Told, News, Other, Impossible, Reported, SetTo, agrees, reportRead, agreed, parametersRead, allNumbers, setWith, strategyNews, samplingNews, isNamed, isOk, news, View, viewAfter, viewBy}
-use Rattle.machine.specs.TwoDevices.{after, connects, linesTo, linesOf, sentTo, messagesOf, reportIn, reportBy, later, lastReport, withoutEnd}
+use Rattle.machine.specs.TwoDevices.{after, connects, packetsOf, isGreeting, greets, linesTo, linesOf, sentTo, messagesOf, reportIn, reportBy, later, lastReport, withoutEnd}
 use Rattle.machine.proofs.TestLaws.{cond-either}
-use Rattle.machine.proofs.PlacesLaws.{each-append}
+use Rattle.machine.proofs.PlacesLaws.{each-append, each-from}
+use Rattle.machine.proofs.HeardLaws.{each-to}
 use Rattle.machine.proofs.FileLaws.{line-parses}
 use Rattle.machine.proofs.ListLaws.{sent-packets}
+use Rattle.machine.proofs.Sent.{sent-well-formed}
+use Rattle.machine.specs.Opening.{Start}
 
 -- Lines.
 
@@ -38,29 +41,40 @@ lines-packed a (d ∷ ds) = go (eqb (d .client) a) (lines-packed a ds)
     go true h = ap (λ l. line (d .message) ∷ l) h
     go false h = h
 
-module _ (bytes : List ℕ) (a : ℕ) where
-  pub lines-are : (h : List Call) → linesOf bytes a h ≡ map line (messagesOf bytes a h)
+-- the greeting stands among the lines where it stands among the messages
+greeting-lines : (ms : List Message) → Each WellFormed ms → fromFirst (λ l. isGreeting (parse (withoutEnd l))) (map line ms) ≡ map line (fromFirst greets ms)
+unfolding fromFirst
+greeting-lines [] w = refl
+greeting-lines (m ∷ ms) w = ap (λ p. cond (isGreeting p) (line m ∷ map line ms) (fromFirst (λ l. isGreeting (parse (withoutEnd l))) (map line ms))) (line-parses m (w .0)) ∙ go (greets m) (greeting-lines ms (w .1))
+  where
+    go : (b : Bool) → fromFirst (λ l. isGreeting (parse (withoutEnd l))) (map line ms) ≡ map line (fromFirst greets ms)
+        → cond b (line m ∷ map line ms) (fromFirst (λ l. isGreeting (parse (withoutEnd l))) (map line ms)) ≡ map line (cond b (m ∷ ms) (fromFirst greets ms))
+    go true ih = refl
+    go false ih = ih
+
+module _ (start : Start) (a : ℕ) where
+  pub lines-are : (h : List Call) → linesOf start a h ≡ map line (messagesOf start a h)
   unfolding linesOf messagesOf
   lines-are [] = refl
-  lines-are (call ∷ h) = ap₂ _++_ (go (connects bytes a h call) (lines-are h)) (ap (linesTo a) (sent-packets bytes a h call) ∙ lines-packed a (step (after bytes h) call .sent))
-      ∙ sym (map-append line (cond (connects bytes a h call) [] (messagesOf bytes a h)) (sentTo a (step (after bytes h) call .sent)))
+  lines-are (call ∷ h) = go (connects start a h call) (ap (linesTo a) (sent-packets start a h call) ∙ lines-packed a (step (after start h) call .sent)) (lines-are h)
     where
-      go : (b : Bool) → linesOf bytes a h ≡ map line (messagesOf bytes a h) → cond b [] (linesOf bytes a h) ≡ map line (cond b [] (messagesOf bytes a h))
-      go true ih = refl
-      go false ih = ih
+      told : List Message
+      told = sentTo a (step (after start h) call .sent)
 
--- what holds of every message that is sent holds of those to a client
-pub each-to : (P : Message → Type 0) (a : ℕ) (ds : List Delivery) → Each (λ (d : Delivery). P (d .message)) ds → Each P (sentTo a ds)
-unfolding sentTo
-each-to P a [] h = tt
-each-to P a (d ∷ ds) h = cond-either (Each P) (eqb (d .client) a) (d .message ∷ sentTo a ds) (sentTo a ds) (h .0, each-to P a ds (h .1)) (each-to P a ds (h .1))
+      go : (b : Bool) → linesTo a (packetsOf start h call) ≡ map line told → linesOf start a h ≡ map line (messagesOf start a h)
+          → cond b (fromFirst (λ l. isGreeting (parse (withoutEnd l))) (linesTo a (packetsOf start h call))) (linesOf start a h ++ linesTo a (packetsOf start h call))
+          ≡ map line (cond b (fromFirst greets told) (messagesOf start a h ++ told))
+      go true e ih = ap (fromFirst (λ l. isGreeting (parse (withoutEnd l)))) e ∙ greeting-lines told (each-to WellFormed a (step (after start h) call .sent) (sent-well-formed (after start h) call))
+      go false e ih = ap₂ _++_ ih e ∙ sym (map-append line (messagesOf start a h) told)
 
-pub each-message : (P : Message → Type 0) (bytes : List ℕ) (a : ℕ) → ((h : List Call) (call : Call) → Each (λ (d : Delivery). P (d .message)) (step (after bytes h) call .sent))
-    → (h : List Call) → Each P (messagesOf bytes a h)
+pub each-message : (P : Message → Type 0) (start : Start) (a : ℕ) → ((h : List Call) (call : Call) → Each (λ (d : Delivery). P (d .message)) (step (after start h) call .sent))
+    → (h : List Call) → Each P (messagesOf start a h)
 unfolding messagesOf
-each-message P bytes a sent [] = tt
-each-message P bytes a sent (call ∷ h) = each-append P (cond (connects bytes a h call) [] (messagesOf bytes a h)) (sentTo a (step (after bytes h) call .sent))
-    (cond-either (Each P) (connects bytes a h call) [] (messagesOf bytes a h) tt (each-message P bytes a sent h)) (each-to P a (step (after bytes h) call .sent) (sent h call))
+each-message P start a sent [] = tt
+each-message P start a sent (call ∷ h) =
+    let own = each-to P a (step (after start h) call .sent) (sent h call) in
+    cond-either (Each P) (connects start a h call) _ _ (each-from P greets (sentTo a (step (after start h) call .sent)) own)
+    (each-append P (messagesOf start a h) (sentTo a (step (after start h) call .sent)) (each-message P start a sent h) own)
 
 -- The last report.
 

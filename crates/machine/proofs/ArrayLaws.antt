@@ -16,7 +16,7 @@ pub options-many : (n : Sensor) (vs : List Val) → shadow (declared.row sensor-
 options-many n vs h = simp length-map at (h .1 .1 .1 .1 .1 .1 .1 .1 .1 .1 .1 .0 .1 .0 .1)
 
 pub sensors-many : (sheet : Sheet) (vs : List Val) → shadow (declared.row sheet-type .own sheet vs) → length (sheet .sensors) ≡ 32
-sensors-many sheet vs h = simp length-map at (h .1 .1 .1 .1 .1 .1 .1 .0 .1 .0 .1)
+sensors-many sheet vs h = simp length-map at (h .1 .1 .1 .1 .1 .1 .1 .1 .0 .1 .0 .1)
 
 pub readings-many : (s : State) (vs : List Val) → shadow (declared.row state-type .own s vs) → length (s .readings) ≡ 32
 readings-many s vs h = simp length-map at (h .1 .1 .1 .1 .1 .1 .0 .1 .0 .1)

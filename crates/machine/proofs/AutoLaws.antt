@@ -17,6 +17,7 @@ use Rattle.machine.specs.declared.Cause.the-variants.{Reading as Read}
 use Rattle.machine.specs.Places.{oneIf}
 use Rattle.machine.specs.Sheet.{sensorOf}
 use Rattle.machine.specs.State.{connected, pairAt, pairOf, withReading}
+use Rattle.machine.specs.Opening.{Start}
 use Rattle.machine.specs.Messages.{report, reportOf}
 use Rattle.machine.specs.Report.{due, dueBy, dueAt, pairSends, visit}
 use Rattle.machine.specs.Declined.{Arrival, Reading, Call, callOf}
@@ -73,45 +74,45 @@ module _ (s : State) (a j : ℕ) (ha : a < 8) (hj : j < 32) (x : Stored) where
 
 -- Over a list of calls.
 
-module _ (bytes : List ℕ) (a j : ℕ) (hs : j < sheetOf bytes .count) (r : Arrival) where
+module _ (start : Start) (a j : ℕ) (hs : j < sheetOf start .count) (r : Arrival) where
   abbrev n : Sensor
-  n = sensorOf (sheetOf bytes) j
+  n = sensorOf (sheetOf start) j
 
   hj : j < 32
-  hj = omega (arith, sheet-rules bytes .count-most)
+  hj = omega (arith, sheet-rules start .count-most)
 
   -- the sample that a device of the sheet makes of the reading, whatever state holds the sheet
-  given-sent : (h : List Call) (lent : List ℕ) → connectedAtEnd bytes a h ≡ true → Newer bytes j r lent h → strategyOf bytes a j h ≡ Auto
-      → sentTo a (step (after bytes h) (callOf (Reading j r) lent) .sent) ≡ report (clockOf bytes h) n (sampleGiven n r) ∷ []
-  given-sent h lent c z st = by-newer bytes j hj hs (λ (e : Effect). sentTo a (e .sent) ≡ report (clockOf bytes h) n (sampleGiven n r) ∷ []) r lent h (z .accepted)
-      (λ _. sent-of-reading (after bytes h) a j (at-end-small bytes a h c) hj (storedGiven (sensorOf (after bytes h .sheet) j) r) (on bytes a h c)
-      (subst (λ sheet. j < sheet .count) (sym (sheet-is bytes h)) hs) (strategy-held bytes a h c j hs ∙ st)
-      ∙ ap₂ (λ t sheet. report t (sensorOf sheet j) (sampleGiven (sensorOf sheet j) r) ∷ []) (clock-is bytes h) (sheet-is bytes h))
+  given-sent : (h : List Call) (lent : List ℕ) → connectedAtEnd start a h ≡ true → Newer start j r lent h → strategyOf start a j h ≡ Auto
+      → sentTo a (step (after start h) (callOf (Reading j r) lent) .sent) ≡ report (clockOf start h) n (sampleGiven n r) ∷ []
+  given-sent h lent c z st = by-newer start j hj hs (λ (e : Effect). sentTo a (e .sent) ≡ report (clockOf start h) n (sampleGiven n r) ∷ []) r lent h (z .accepted)
+      (λ _. sent-of-reading (after start h) a j (at-end-small start a h c) hj (storedGiven (sensorOf (after start h .sheet) j) r) (on start a h c)
+      (subst (λ sheet. j < sheet .count) (sym (sheet-is start h)) hs) (strategy-held start a h c j hs ∙ st)
+      ∙ ap₂ (λ t sheet. report t (sensorOf sheet j) (sampleGiven (sensorOf sheet j) r) ∷ []) (clock-is start h) (sheet-is start h))
       (λ e. absurd (true≢false (sym (z .newer) ∙ e)))
 
-  one-line : (h : List Call) (lent : List ℕ) → connectedAtEnd bytes a h ≡ true → Newer bytes j r lent h → strategyOf bytes a j h ≡ Auto
-      → linesOf bytes a (callOf (Reading j r) lent ∷ h) ≡ linesOf bytes a h ++ (reportGiven bytes j r h ∷ [])
-  one-line h lent c z st = more-lines bytes a (callOf (Reading j r) lent) h (no-connect bytes a (callOf (Reading j r) lent) h refl)
-      ∙ ap (λ l. linesOf bytes a h ++ l) (ap (linesTo a) (sent-packets bytes a h (callOf (Reading j r) lent)) ∙ (lines-packed a (step (after bytes h) (callOf (Reading j r) lent) .sent) ∙ ap (map line) (given-sent h lent c z st)))
+  one-line : (h : List Call) (lent : List ℕ) → connectedAtEnd start a h ≡ true → Newer start j r lent h → strategyOf start a j h ≡ Auto
+      → linesOf start a (callOf (Reading j r) lent ∷ h) ≡ linesOf start a h ++ (reportGiven start j r h ∷ [])
+  one-line h lent c z st = more-lines start a (callOf (Reading j r) lent) h (no-connect start a (callOf (Reading j r) lent) h refl)
+      ∙ ap (λ l. linesOf start a h ++ l) (ap (linesTo a) (sent-packets start a h (callOf (Reading j r) lent)) ∙ (lines-packed a (step (after start h) (callOf (Reading j r) lent) .sent) ∙ ap (map line) (given-sent h lent c z st)))
 
-  given-told : (h : List Call) → lineNews (sheetOf bytes) (reportGiven bytes j r h) ≡ Reported j (toldOf n (clockOf bytes h) (sampleGiven n r))
-  given-told h = ap (newsIn (sheetOf bytes)) (line-parses (report (clockOf bytes h) n (sampleGiven n r)) well)
-      ∙ news-report (sheetOf bytes) (opened-range bytes .sensors-in) j hs (clockOf bytes h) fits (sampleGiven n r) (given-fits n r)
+  given-told : (h : List Call) → lineNews (sheetOf start) (reportGiven start j r h) ≡ Reported j (toldOf n (clockOf start h) (sampleGiven n r))
+  given-told h = ap (newsIn (sheetOf start)) (line-parses (report (clockOf start h) n (sampleGiven n r)) well)
+      ∙ news-report (sheetOf start) (opened-range start .sensors-in) j hs (clockOf start h) fits (sampleGiven n r) (given-fits n r)
     where
-      fits : clockOf bytes h ≤ 9999999999999
-      fits = subst (λ t. t ≤ 9999999999999) (clock-is bytes h) (range-out (after bytes h) (after-in-range bytes h) .clock-in)
+      fits : clockOf start h ≤ 9999999999999
+      fits = subst (λ t. t ≤ 9999999999999) (clock-is start h) (range-out (after start h) (after-in-range start h) .clock-in)
 
-      well : WellFormed (report (clockOf bytes h) n (sampleGiven n r))
-      well = sound-well-formed 200 _ (omega arith) (sound-report (clockOf bytes h) n (sampleGiven n r) fits (sheet-rules bytes .sensor-is j hs) (given-fits n r))
+      well : WellFormed (report (clockOf start h) n (sampleGiven n r))
+      well = sound-well-formed 200 _ (omega arith) (sound-report (clockOf start h) n (sampleGiven n r) fits (sheet-rules start .sensor-is j hs) (given-fits n r))
 
 -- readings under auto
 pub auto-shows : AutoShows
 auto-shows = record {
-  own-line = λ bytes a j hs r lent h c z st. one-line bytes a j hs r h lent c z st;
-  in-file = λ bytes a j hs r lent later h e z st.
+  own-line = λ start a j hs r lent h c z st. one-line start a j hs r h lent c z st;
+  in-file = λ start a j hs r lent later h e z st.
       let call = callOf (Reading j r) lent in
-      let s = start-of bytes a (call ∷ h) later (e .same-connection) in
-      let c = still-on bytes a call h (no-connect bytes a call h refl) (on-then bytes a (call ∷ h) later (e .same-connection) (e .at-end)) in
-      (s .0, s .1 ∙ (ap (λ l. l ++ s .0) (one-line bytes a j hs r h lent c z st) ∙ append-assoc (linesOf bytes a h) (reportGiven bytes j r h ∷ []) (s .0)));
-  told = λ bytes j hs r h. given-told bytes 0 j hs r h;
+      let s = start-of start a (call ∷ h) later (e .same-connection) in
+      let c = still-on start a call h (no-connect start a call h refl) (on-then start a (call ∷ h) later (e .same-connection) (e .at-end)) in
+      (s .0, s .1 ∙ (ap (λ l. l ++ s .0) (one-line start a j hs r h lent c z st) ∙ append-assoc (linesOf start a h) (reportGiven start j r h ∷ []) (s .0)));
+  told = λ start j hs r h. given-told start 0 j hs r h;
 }

@@ -2,7 +2,7 @@
 use Prim.Native.Nat.{ℕ, suc, _/_, _%_, _≤_}
 use native.Mathlib.Omega.{arith}
 use mathlib.Core.Path.{_≡_, refl, ap, sym, _∙_, subst}
-use mathlib.Core.Bool.{Bool, true, false, cond, not, _&&_, true≢false}
+use mathlib.Core.Bool.{Bool, true, false, cond, not, _&&_, _||_, true≢false}
 use mathlib.Core.List.{List, [], _∷_, _++_, map}
 use mathlib.Core.Option.{some}
 use lib.Dec.{eqb, leb, ltb}
@@ -25,6 +25,7 @@ use Rattle.machine.specs.Places.{Each, isZero}
 use Rattle.machine.specs.Sheet.{sensorOf}
 use Rattle.machine.specs.State.{present, connected, pairAt, withClock, withReading, startLevel}
 use Rattle.machine.specs.Range.{isNone}
+use Rattle.machine.specs.Opening.{Start}
 use Rattle.machine.specs.Messages
 use Rattle.machine.specs.Report.{Work, dueAt, pairSends, visit}
 use Rattle.machine.specs.Requests.{Asked, Nothing, NotMessage, Reply, Unknown, Asks, asked, listed, askedPlaces, helpNames, addresses, strategyAsked, sampledSends, sampling, endConnections, answer}
@@ -33,13 +34,14 @@ use Rattle.machine.specs.Machine.{connectSends, entries, Effect, perform
 use Rattle.machine.specs.TwoDevices.{after, packetsOf, connects, linesTo, linesOf, sentTo, withoutEnd, clockBy, clockOf}
 use Rattle.machine.specs.Tells.{showsClock, clockIn, lineClock, ClockShown}
 use Rattle.machine.proofs.TestLaws.{and-true, cond-either, fitted}
-use Rattle.machine.proofs.PlacesLaws.{each-append, each-gather, each-one, each-map, each-of, each-weaker}
+use Rattle.machine.proofs.PlacesLaws.{each-append, each-from, each-gather, each-one, each-map, each-of, each-weaker}
 use Rattle.machine.proofs.RangeLaws.{range-out}
-use Rattle.machine.proofs.StepLaws.{by-cases, accepted, by-superseding, by-asking}
+use Rattle.machine.proofs.StepLaws.{by-cases, accepted, connect-each, by-superseding, by-asking}
 use Rattle.machine.proofs.KeptInRange.{after-in-range}
 use Rattle.machine.proofs.Sent.{sent-well-formed}
 use Rattle.machine.proofs.ListLaws.{clock-is, sent-packets}
-use Rattle.machine.proofs.ArchiveLaws.{lines-packed, each-to}
+use Rattle.machine.proofs.HeardLaws.{each-to}
+use Rattle.machine.proofs.ArchiveLaws.{lines-packed}
 use Rattle.machine.proofs.TellsLaws.{lines-read}
 
 -- a message that shows a clock shows t
@@ -71,8 +73,8 @@ module _ (t : ℕ) (fits : t ≤ 9999999999999) where
   report-timed n x _ = times .back t (le-leb t 9999999999999 fits)
 
 connect-timed : (t : ℕ) (sheet : Sheet) (s : State) (c : ℕ) (address : List ℕ) → AllTimed t (connectSends sheet s c address)
-unfolding connectSends
-connect-timed t sheet s c address = (silent, (silent, where-timed t (λ k. connected s k && not (eqb k c)) (Messages.clientConnected address) (silent)))
+connect-timed t sheet s c address = connect-each (λ (d : Delivery). Timed t (d .message)) sheet s c address (λ _ _. silent) silent silent
+    (where-timed t (λ k. connected s k && not (eqb k c)) (Messages.clientConnected address) silent)
 
 -- Answers.
 
@@ -99,13 +101,13 @@ module _ (sheet : Sheet) (s : State) (fits : s .clock ≤ 9999999999999) where
   unfolding answer Messages.sensorInform Messages.valueInform
   answer-timed c m ClientList = counted-timed (s .clock) sheet s c m (Messages.clientInform (m .id)) (addresses s) (λ x. refl)
   answer-timed c m Halt = ending-timed (s .clock) sheet s c m (text "Device halting.") true (s .level)
-  answer-timed c m Help = counted-timed (s .clock) sheet s c m (Messages.helpInform (m .id)) (helpNames m) (λ x. refl)
+  answer-timed c m Help = counted-timed (s .clock) sheet s c m (Messages.helpInform (m .id)) (helpNames (sheet .profile) m) (λ x. refl)
   answer-timed c m LogLevel = (silent, tt)
   answer-timed c m Restart = ending-timed (s .clock) sheet s c m (text "Device restarting.") false startLevel
   answer-timed c m SensorList = counted-timed (s .clock) sheet s c m (λ j. Messages.sensorInform (m .id) (sensorOf sheet j)) (askedPlaces sheet m) (λ x. refl)
   answer-timed c m SensorSampling = sampling-timed c m
   answer-timed c m SensorValue = counted-timed (s .clock) sheet s c m (Messages.valueInform (m .id) s sheet) (askedPlaces sheet m) (λ x. refl)
-  answer-timed c m VersionList = counted-timed (s .clock) sheet s c m (Messages.versionInform (m .id)) (Messages.protocolArgs ∷ Messages.deviceArgs sheet ∷ []) (λ x. refl)
+  answer-timed c m VersionList = counted-timed (s .clock) sheet s c m (Messages.versionInform (m .id)) (Messages.protocolArgs (sheet .profile) ∷ Messages.deviceArgs sheet ∷ []) (λ x. refl)
   answer-timed c m Watchdog = (silent, tt)
 
   visit-timed : (cause : Cause) → AllTimed (s .clock) (visit sheet s cause .sent)
@@ -126,7 +128,7 @@ module _ (sheet : Sheet) (s : State) (fits : s .clock ≤ 9999999999999) where
   refusal-timed n (Tick t) = tt
   refusal-timed n (Reading j r) = tt
   refusal-timed n (Log level logger said) = tt
-  refusal-timed n (Line c said) = cond-either (AllTimed (s .clock)) (ltb n 12) [] _ tt (go (asked said))
+  refusal-timed n (Line c said) = cond-either (AllTimed (s .clock)) (ltb n 12 || ltb 23 n) [] _ tt (go (asked said))
     where
       go : (w : Asked) → AllTimed (s .clock) (lineRefusal (s .clock) c n w)
       go Nothing = tt
@@ -158,46 +160,46 @@ module _ (s : State) (fits : s .clock ≤ 9999999999999) where
   clock-on (Log level logger said) d = omega arith
   clock-on (Line c said) d = omega arith
 
-module _ (bytes : List ℕ) where
-  clock-most : (h : List Call) → after bytes h .clock ≤ 9999999999999
-  clock-most h = range-out (after bytes h) (after-in-range bytes h) .clock-in
+module _ (start : Start) where
+  clock-most : (h : List Call) → after start h .clock ≤ 9999999999999
+  clock-most h = range-out (after start h) (after-in-range start h) .clock-in
 
-  sent-timed : (h : List Call) (call : Call) → AllTimed (clockOf bytes (call ∷ h)) (step (after bytes h) call .sent)
+  sent-timed : (h : List Call) (call : Call) → AllTimed (clockOf start (call ∷ h)) (step (after start h) call .sent)
   unfolding clockOf
-  sent-timed h call = by-cases (λ (e : Effect). AllTimed (cond (isZero (e .number)) (clockBy (call .action) (clockOf bytes h)) (clockOf bytes h)) (e .sent)) (after bytes h) call
-      (λ z. subst (λ t. AllTimed (clockBy (call .action) t) (perform (after bytes h .sheet) (after bytes h) (call .action) .sent)) (clock-is bytes h)
-      (perform-timed (after bytes h) (clock-most h) (call .action) (accepted (after bytes h) call z .fits)))
-      (λ n _. subst (λ t. AllTimed t (refusal (after bytes h) (suc n) (call .action))) (clock-is bytes h) (refusal-timed (after bytes h .sheet) (after bytes h) (clock-most h) (suc n) (call .action)))
+  sent-timed h call = by-cases (λ (e : Effect). AllTimed (cond (isZero (e .number)) (clockBy (call .action) (clockOf start h)) (clockOf start h)) (e .sent)) (after start h) call
+      (λ z. subst (λ t. AllTimed (clockBy (call .action) t) (perform (after start h .sheet) (after start h) (call .action) .sent)) (clock-is start h)
+      (perform-timed (after start h) (clock-most h) (call .action) (accepted (after start h) call z .fits)))
+      (λ n _. subst (λ t. AllTimed t (refusal (after start h) (suc n) (call .action))) (clock-is start h) (refusal-timed (after start h .sheet) (after start h) (clock-most h) (suc n) (call .action)))
 
-  clock-step : (h : List Call) (call : Call) → clockOf bytes h ≤ clockOf bytes (call ∷ h)
+  clock-step : (h : List Call) (call : Call) → clockOf start h ≤ clockOf start (call ∷ h)
   unfolding clockOf
-  clock-step h call = by-cases (λ (e : Effect). clockOf bytes h ≤ cond (isZero (e .number)) (clockBy (call .action) (clockOf bytes h)) (clockOf bytes h)) (after bytes h) call
-      (λ z. subst (λ t. t ≤ clockBy (call .action) t) (clock-is bytes h) (clock-on (after bytes h) (clock-most h) (call .action) (accepted (after bytes h) call z .fits)))
+  clock-step h call = by-cases (λ (e : Effect). clockOf start h ≤ cond (isZero (e .number)) (clockBy (call .action) (clockOf start h)) (clockOf start h)) (after start h) call
+      (λ z. subst (λ t. t ≤ clockBy (call .action) t) (clock-is start h) (clock-on (after start h) (clock-most h) (call .action) (accepted (after start h) call z .fits)))
       (λ n _. omega arith)
 
-  never-back : (later h : List Call) → clockOf bytes h ≤ clockOf bytes (later ++ h)
+  never-back : (later h : List Call) → clockOf start h ≤ clockOf start (later ++ h)
   never-back [] h = omega arith
   never-back (call ∷ later) h = omega (arith, never-back later h, clock-step (later ++ h) call)
 
   -- Lines.
 
-  shown : (a : ℕ) (h : List Call) (call : Call) → Each (λ l. showsClock (parse (withoutEnd l)) ≡ true → lineClock l ≡ some (clockOf bytes (call ∷ h))) (linesTo a (packetsOf bytes h call))
-  shown a h call = let t = clockOf bytes (call ∷ h) in let ds = step (after bytes h) call .sent in
-      subst (Each (λ l. showsClock (parse (withoutEnd l)) ≡ true → lineClock l ≡ some t)) (sym (ap (linesTo a) (sent-packets bytes a h call) ∙ lines-packed a ds))
-      (lines-read (λ p. showsClock p ≡ true → clockIn p ≡ some t) (sentTo a ds) (each-to WellFormed a ds (sent-well-formed (after bytes h) call)) (each-to (Timed t) a ds (sent-timed h call)))
+  shown : (a : ℕ) (h : List Call) (call : Call) → Each (λ l. showsClock (parse (withoutEnd l)) ≡ true → lineClock l ≡ some (clockOf start (call ∷ h))) (linesTo a (packetsOf start h call))
+  shown a h call = let t = clockOf start (call ∷ h) in let ds = step (after start h) call .sent in
+      subst (Each (λ l. showsClock (parse (withoutEnd l)) ≡ true → lineClock l ≡ some t)) (sym (ap (linesTo a) (sent-packets start a h call) ∙ lines-packed a ds))
+      (lines-read (λ p. showsClock p ≡ true → clockIn p ≡ some t) (sentTo a ds) (each-to WellFormed a ds (sent-well-formed (after start h) call)) (each-to (Timed t) a ds (sent-timed h call)))
 
   -- a line that shows a clock shows one that is not later than now
   abbrev Not-later : ℕ → List ℕ → Type 0
   Not-later now l = showsClock (parse (withoutEnd l)) ≡ true → (t : ℕ) × ((lineClock l ≡ some t) × (t ≤ now))
 
-  at-least : (a : ℕ) (h : List Call) → Each (Not-later (clockOf bytes h)) (linesOf bytes a h)
+  at-least : (a : ℕ) (h : List Call) → Each (Not-later (clockOf start h)) (linesOf start a h)
   unfolding linesOf
   at-least a [] = tt
-  at-least a (call ∷ h) = let now = clockOf bytes (call ∷ h) in
-      each-append (Not-later now) (cond (connects bytes a h call) [] (linesOf bytes a h)) _
-      (cond-either (Each (Not-later now)) (connects bytes a h call) [] (linesOf bytes a h) tt
-      (each-weaker (Not-later (clockOf bytes h)) (Not-later now) (λ l f e. let k = f e in (k .0, (k .1 .0, omega (arith, k .1 .1, clock-step h call)))) (linesOf bytes a h) (at-least a h)))
-      (each-weaker (λ l. showsClock (parse (withoutEnd l)) ≡ true → lineClock l ≡ some now) (Not-later now) (λ l f e. (now, (f e, omega arith))) (linesTo a (packetsOf bytes h call)) (shown a h call))
+  at-least a (call ∷ h) = let now = clockOf start (call ∷ h) in
+      let own = each-weaker (λ l. showsClock (parse (withoutEnd l)) ≡ true → lineClock l ≡ some now) (Not-later now) (λ l f e. (now, (f e, omega arith))) (linesTo a (packetsOf start h call)) (shown a h call) in
+      cond-either (Each (Not-later now)) (connects start a h call) _ _ (each-from (Not-later now) _ _ own)
+      (each-append (Not-later now) (linesOf start a h) _
+      (each-weaker (Not-later (clockOf start h)) (Not-later now) (λ l f e. let k = f e in (k .0, (k .1 .0, omega (arith, k .1 .1, clock-step h call)))) (linesOf start a h) (at-least a h)) own)
 
 -- the clocks of a file
 pub clock-shown : ClockShown

@@ -5,12 +5,13 @@ use mathlib.Core.Path.{_≡_, refl}
 use mathlib.Core.Bool.{false}
 use mathlib.Core.List.{List}
 use lib.ListN.{length}
-use borrow.Author.Tests.{le-ltb}
+use borrow.Author.Tests.{le-ltb, eqb-false}
 use Rattle.machine.specs.declared.Opened.{Opened}
-use Rattle.machine.specs.Opening.{opened}
+use Rattle.machine.specs.Sheet.{lastClient}
+use Rattle.machine.specs.Opening.{Start, opened}
 use Rattle.machine.specs.Declined.{clientDeclined, actionDeclined, declined}
 use Rattle.machine.specs.Machine.{outcome}
-use Rattle.machine.specs.TwoDevices.{after, connectedAtEnd}
+use Rattle.machine.specs.TwoDevices.{after, sheetOf, connectedAtEnd}
 use Rattle.machine.specs.Claims.{Connectable}
 use Rattle.machine.proofs.TestLaws.{eqb-refl}
 use Rattle.machine.proofs.OpenedRange.{opened-cases}
@@ -18,10 +19,10 @@ use Rattle.machine.proofs.KeptInRange.{kept-in-range}
 use Rattle.machine.proofs.ListLaws.{opened-alone}
 
 -- a sheet that opens gives a device that is not halted
-opened-running : (bytes : List ℕ) → opened bytes .number ≡ 0 → opened bytes .state .halted ≡ false
-opened-running bytes = opened-cases (λ (o : Opened). o .number ≡ 0 → o .state .halted ≡ false) bytes (λ _ _ _. refl) (λ e. absurd (omega arith))
+opened-running : (start : Start) → opened start .number ≡ 0 → opened start .state .halted ≡ false
+opened-running start = opened-cases (λ (o : Opened). o .number ≡ 0 → o .state .halted ≡ false) start (λ _ _ _ _. refl) (λ n z e. absurd (eqb-false n 0 z e))
 
 pub connectable : Connectable
 unfolding after connectedAtEnd outcome declined actionDeclined clientDeclined
-connectable bytes e c hc address fits lent room =
-    rw (kept-in-range .opened-in-range bytes, le-ltb (length lent) 65536 room, opened-running bytes e, le-ltb 7 c (omega arith), opened-alone bytes c, fits, eqb-refl c)
+connectable start e c hc address fits lent room =
+    rw (kept-in-range .opened-in-range start, le-ltb (length lent) 65536 room, opened-running start e, le-ltb (lastClient (sheetOf start .profile)) c hc, opened-alone start c, fits, eqb-refl c)

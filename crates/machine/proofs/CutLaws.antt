@@ -9,26 +9,28 @@ use lib.ListN.{length}
 use borrow.Author.Tests.{eq-eqb, ltb-true, ltb-false, not-true}
 use Rattle.message.specs.Message.{line}
 use Rattle.message.specs.Delivery.{Delivery}
-use Rattle.line.specs.Line.{WellFormed}
+use Rattle.line.specs.Line.{parse, WellFormed}
 use Rattle.machine.specs.declared.Sheet.{Sheet}
 use Rattle.machine.specs.declared.State.{State}
 use Rattle.machine.specs.declared.Strategy.{Strategy}
-use Rattle.machine.specs.Places.{Each}
+use Rattle.machine.specs.Places.{Each, fromFirst}
 use Rattle.machine.specs.Sheet.{sensorOf}
 use Rattle.machine.specs.Range.{isNone}
+use Rattle.machine.specs.Opening.{Start}
 use Rattle.machine.specs.Declined.{Call}
 use Rattle.machine.specs.Machine.{step}
 use Rattle.machine.specs.Reader.{Told, News, Other, Impossible, Reported, SetTo, news, View, viewAfter, noView}
-use Rattle.machine.specs.TwoDevices.{after, sheetOf, packetsOf, connects, connectedAtEnd, linesTo, linesOf, sentTo, clockOf}
+use Rattle.machine.specs.TwoDevices.{after, sheetOf, packetsOf, connects, connectedAtEnd, withoutEnd, isGreeting, linesTo, linesOf, sentTo, clockOf}
 use Rattle.machine.specs.Tells.{newsIn, lineNews, viewIn, fileView, ViewTells, FileTells, readingAt}
 use Rattle.machine.specs.Cut.{upToLine, goesOn, mayGoOn, leavesOpen}
 use Rattle.machine.proofs.TestLaws.{and-true, cond-either, cond-cases}
-use Rattle.machine.proofs.PlacesLaws.{each-behind, each-weaker}
+use Rattle.machine.proofs.PlacesLaws.{from-rest, each-behind, each-weaker}
 use Rattle.machine.proofs.ShapeLaws.{Held, ReportsOf, by-shape}
 use Rattle.machine.proofs.FileLaws.{line-parses}
 use Rattle.machine.proofs.Sent.{sent-well-formed}
 use Rattle.machine.proofs.ListLaws.{sheet-is, sent-packets}
-use Rattle.machine.proofs.ArchiveLaws.{lines-packed, each-to}
+use Rattle.machine.proofs.HeardLaws.{each-to}
+use Rattle.machine.proofs.ArchiveLaws.{lines-packed}
 use Rattle.machine.proofs.TellsLaws.{view-in-append, lines-read, tells}
 use Rattle.machine.proofs.MomentLaws.{still-on, more-lines}
 
@@ -125,59 +127,77 @@ call-settles s call a = by-shape (λ ds. Each WellFormed (sentTo a ds) → Settl
 
 -- A list of calls.
 
-module _ (bytes : List ℕ) (a : ℕ) where
-  lines-settle : (h : List Call) (call : Call) → Settles (sheetOf bytes) (linesTo a (packetsOf bytes h call))
-  lines-settle h call = let ds = step (after bytes h) call .sent in
-      subst (λ sheet. Settles sheet (linesTo a (packetsOf bytes h call))) (sheet-is bytes h)
-      (subst (Settles (after bytes h .sheet)) (sym (ap (linesTo a) (sent-packets bytes a h call) ∙ lines-packed a ds))
-      (call-settles (after bytes h) call a (each-to WellFormed a ds (sent-well-formed (after bytes h) call))))
+module _ (start : Start) (a : ℕ) where
+  lines-settle : (h : List Call) (call : Call) → Settles (sheetOf start) (linesTo a (packetsOf start h call))
+  lines-settle h call = let ds = step (after start h) call .sent in
+      subst (λ sheet. Settles sheet (linesTo a (packetsOf start h call))) (sheet-is start h)
+      (subst (Settles (after start h .sheet)) (sym (ap (linesTo a) (sent-packets start a h call) ∙ lines-packed a ds))
+      (call-settles (after start h) call a (each-to WellFormed a ds (sent-well-formed (after start h) call))))
+
+  -- the lines that a call gives the connection: those of its connect from the greeting on
+  abbrev given : List Call → Call → List (List ℕ)
+  given h call = cond (connects start a h call) (fromFirst (λ l. isGreeting (parse (withoutEnd l))) (linesTo a (packetsOf start h call))) (linesTo a (packetsOf start h call))
+
+  lines-given : (call : Call) (h : List Call) → linesOf start a (call ∷ h) ≡ cond (connects start a h call) [] (linesOf start a h) ++ given h call
+  unfolding linesOf
+  lines-given call h = go (connects start a h call)
+    where
+      go : (b : Bool) → cond b (fromFirst (λ l. isGreeting (parse (withoutEnd l))) (linesTo a (packetsOf start h call))) (linesOf start a h ++ linesTo a (packetsOf start h call))
+          ≡ cond b [] (linesOf start a h) ++ cond b (fromFirst (λ l. isGreeting (parse (withoutEnd l))) (linesTo a (packetsOf start h call))) (linesTo a (packetsOf start h call))
+      go true = refl
+      go false = refl
+
+  given-settles : (h : List Call) (call : Call) → Settles (sheetOf start) (given h call)
+  given-settles h call = cond-either (Settles (sheetOf start)) (connects start a h call) _ _
+      (let q = from-rest (λ l. isGreeting (parse (withoutEnd l))) (linesTo a (packetsOf start h call)) in
+      λ part l rest e f. lines-settle h call (q .0 ++ part) l rest (q .1 ∙ (ap (λ ls. q .0 ++ ls) e ∙ sym (append-assoc (q .0) part (l ∷ rest)))) f)
+      (lines-settle h call)
 
   -- a line that is not of an earlier call
-  pub from-here : (k : ℕ) (h : List Call) (b : Bool) → (not b && ltb k (length (linesOf bytes a h))) ≡ false → length (cond b [] (linesOf bytes a h)) ≤ k
+  pub from-here : (k : ℕ) (h : List Call) (b : Bool) → (not b && ltb k (length (linesOf start a h))) ≡ false → length (cond b [] (linesOf start a h)) ≤ k
   from-here k h true q = omega arith
-  from-here k h false q = ltb-false k (length (linesOf bytes a h)) q
+  from-here k h false q = ltb-false k (length (linesOf start a h)) q
 
-  module _ (j : ℕ) (hs : j < sheetOf bytes .count) (before : List (List ℕ)) (l : List ℕ) where
+  module _ (j : ℕ) (hs : j < sheetOf start .count) (before : List (List ℕ)) (l : List ℕ) where
     -- what the lines up to l tell holds behind the calls g
     abbrev pub Concluded : List Call → Type 0
-    Concluded g = FileTells (sheetOf bytes) j (before ++ (l ∷ [])) (clockOf bytes g) (readingAt bytes j g)
+    Concluded g = FileTells (sheetOf start) j (before ++ (l ∷ [])) (clockOf start g) (readingAt start j g)
 
     -- of a call that gave the line l: its further lines tell nothing
-    this-call : (call : Call) (h : List Call) (behind : List (List ℕ)) → connectedAtEnd bytes a (call ∷ h) ≡ true → linesOf bytes a (call ∷ h) ≡ before ++ (l ∷ behind)
-        → opens (sheetOf bytes) l behind ≡ false → length (cond (connects bytes a h call) [] (linesOf bytes a h)) ≤ length before → Concluded (call ∷ h)
-    unfolding linesOf
-    this-call call h behind c e f len = subst (λ v. ViewTells (sensorOf (sheetOf bytes) j) v (clockOf bytes (call ∷ h)) (readingAt bytes j (call ∷ h))) same (tells bytes a (call ∷ h) c j hs .reading-told)
+    this-call : (call : Call) (h : List Call) (behind : List (List ℕ)) → connectedAtEnd start a (call ∷ h) ≡ true → linesOf start a (call ∷ h) ≡ before ++ (l ∷ behind)
+        → opens (sheetOf start) l behind ≡ false → length (cond (connects start a h call) [] (linesOf start a h)) ≤ length before → Concluded (call ∷ h)
+    this-call call h behind c e f len = subst (λ v. ViewTells (sensorOf (sheetOf start) j) v (clockOf start (call ∷ h)) (readingAt start j (call ∷ h))) same (tells start a (call ∷ h) c j hs .reading-told)
       where
-        parts : (part : List (List ℕ)) × ((before ≡ cond (connects bytes a h call) [] (linesOf bytes a h) ++ part) × (linesTo a (packetsOf bytes h call) ≡ part ++ (l ∷ behind)))
-        parts = cut-behind before l behind (cond (connects bytes a h call) [] (linesOf bytes a h)) (linesTo a (packetsOf bytes h call)) e len
+        parts : (part : List (List ℕ)) × ((before ≡ cond (connects start a h call) [] (linesOf start a h) ++ part) × (given h call ≡ part ++ (l ∷ behind)))
+        parts = cut-behind before l behind (cond (connects start a h call) [] (linesOf start a h)) (given h call) (sym (lines-given call h) ∙ e) len
 
-        same : fileView (sheetOf bytes) j (linesOf bytes a (call ∷ h)) ≡ fileView (sheetOf bytes) j (before ++ (l ∷ []))
-        same = ap (fileView (sheetOf bytes) j) (e ∙ sym (append-assoc before (l ∷ []) behind)) ∙ (view-in-append (sheetOf bytes) j (before ++ (l ∷ [])) behind noView
-            ∙ view-still (sheetOf bytes) j behind _ (lines-settle h call (parts .0) l behind (parts .1 .1) f))
+        same : fileView (sheetOf start) j (linesOf start a (call ∷ h)) ≡ fileView (sheetOf start) j (before ++ (l ∷ []))
+        same = ap (fileView (sheetOf start) j) (e ∙ sym (append-assoc before (l ∷ []) behind)) ∙ (view-in-append (sheetOf start) j (before ++ (l ∷ [])) behind noView
+            ∙ view-still (sheetOf start) j behind _ (given-settles h call (parts .0) l behind (parts .1 .1) f))
 
     -- of a call behind it
     abbrev pub Before : List Call → Type 0
-    Before h = (behind : List (List ℕ)) → connectedAtEnd bytes a h ≡ true → linesOf bytes a h ≡ before ++ (l ∷ behind) → opens (sheetOf bytes) l behind ≡ false
-        → Concluded (upToLine bytes a (length before) h)
+    Before h = (behind : List (List ℕ)) → connectedAtEnd start a h ≡ true → linesOf start a h ≡ before ++ (l ∷ behind) → opens (sheetOf start) l behind ≡ false
+        → Concluded (upToLine start a (length before) h)
 
-    earlier-call : (call : Call) (h : List Call) → connects bytes a h call ≡ false → length before < length (linesOf bytes a h) → Before h
-        → (behind : List (List ℕ)) → connectedAtEnd bytes a (call ∷ h) ≡ true → linesOf bytes a (call ∷ h) ≡ before ++ (l ∷ behind)
-        → opens (sheetOf bytes) l behind ≡ false → Concluded (upToLine bytes a (length before) h)
+    earlier-call : (call : Call) (h : List Call) → connects start a h call ≡ false → length before < length (linesOf start a h) → Before h
+        → (behind : List (List ℕ)) → connectedAtEnd start a (call ∷ h) ≡ true → linesOf start a (call ∷ h) ≡ before ++ (l ∷ behind)
+        → opens (sheetOf start) l behind ≡ false → Concluded (upToLine start a (length before) h)
     earlier-call call h n len ih behind c e f =
-        let r = cut-within before l behind (linesOf bytes a h) (linesTo a (packetsOf bytes h call)) (sym (more-lines bytes a call h n) ∙ e) len in
-        ih (r .0) (still-on bytes a call h n c) (r .1 .0) (shorter (r .0) (sym (ap (opens (sheetOf bytes) l) (r .1 .1)) ∙ f))
+        let r = cut-within before l behind (linesOf start a h) (linesTo a (packetsOf start h call)) (sym (more-lines start a call h n) ∙ e) len in
+        ih (r .0) (still-on start a call h n c) (r .1 .0) (shorter (r .0) (sym (ap (opens (sheetOf start) l) (r .1 .1)) ∙ f))
       where
-        shorter : (mid : List (List ℕ)) → opens (sheetOf bytes) l (mid ++ linesTo a (packetsOf bytes h call)) ≡ false → opens (sheetOf bytes) l mid ≡ false
+        shorter : (mid : List (List ℕ)) → opens (sheetOf start) l (mid ++ linesTo a (packetsOf start h call)) ≡ false → opens (sheetOf start) l mid ≡ false
         shorter [] q = refl
         shorter (next ∷ mid) q = q
 
     pub cut-at : (h : List Call) → Before h
     unfolding upToLine connectedAtEnd
     cut-at [] behind c e f = absurd (true≢false (sym c))
-    cut-at (call ∷ h) behind c e f = cond-cases Concluded (not (connects bytes a h call) && ltb (length before) (length (linesOf bytes a h))) (upToLine bytes a (length before) h) (call ∷ h)
-        (λ q. let k = and-true (not (connects bytes a h call)) _ q in
-        earlier-call call h (not-true (connects bytes a h call) (k .0)) (ltb-true (length before) (length (linesOf bytes a h)) (k .1)) (cut-at h) behind c e f)
-        (λ q. this-call call h behind c e f (from-here (length before) h (connects bytes a h call) q))
+    cut-at (call ∷ h) behind c e f = cond-cases Concluded (not (connects start a h call) && ltb (length before) (length (linesOf start a h))) (upToLine start a (length before) h) (call ∷ h)
+        (λ q. let k = and-true (not (connects start a h call)) _ q in
+        earlier-call call h (not-true (connects start a h call) (k .0)) (ltb-true (length before) (length (linesOf start a h)) (k .1)) (cut-at h) behind c e f)
+        (λ q. this-call call h behind c e f (from-here (length before) h (connects start a h call) q))
 
 -- a reader who sees some of the lines behind
 may-not : (w next : News) → mayGoOn w ≡ false → goesOn w next ≡ false

@@ -16,6 +16,7 @@ use Rattle.line.specs.Line.{Parse, malformed, message, parse}
 use Rattle.machine.specs.declared.Sheet.{Sheet}
 use Rattle.machine.specs.Places.{Each}
 use Rattle.machine.specs.Sheet.{sensorOf, placeOf}
+use Rattle.machine.specs.Opening.{Start}
 use Rattle.machine.specs.Requests.{argument}
 use Rattle.machine.specs.Declined.{Call}
 use Rattle.machine.specs.Reader.{News, Other, Impossible, Reported, SetTo, Parts, isShaped, partsWith, partsOf, readValue, valued, reportOn, reportFrom, reportRead, agreed, samplingNews, agrees, isNamed, isOk, news}
@@ -133,13 +134,13 @@ module _ (sheet : Sheet) where
 
 -- The call that gave a line.
 
-module _ (bytes : List ℕ) (a k : ℕ) where
+module _ (start : Start) (a k : ℕ) where
   -- it was found, at the end of `found`
   abbrev Found : List Call → List Call → Type 0
-  Found h found = (later : List Call) × ((call : Call) × ((g : List Call) × ((found ≡ call ∷ g) × GaveLine bytes a k h later call g)))
+  Found h found = (later : List Call) × ((call : Call) × ((g : List Call) × ((found ≡ call ∷ g) × GaveLine start a k h later call g)))
 
   -- a call more behind it
-  one-more : (call : Call) (h found : List Call) → connects bytes a h call ≡ false → Found h found → Found (call ∷ h) found
+  one-more : (call : Call) (h found : List Call) → connects start a h call ≡ false → Found h found → Found (call ∷ h) found
   unfolding connectsIn
   one-more call h found n f = let r = f .1 .1 .1 .1 in (
     call ∷ f .0,
@@ -151,7 +152,7 @@ module _ (bytes : List ℕ) (a k : ℕ) where
           f .1 .1 .1 .0,
           record {
             in-list = ap (λ l. call ∷ l) (r .in-list);
-            same-connection = or-none (subst (λ l. connects bytes a l call ≡ false) (r .in-list) n) (r .same-connection);
+            same-connection = or-none (subst (λ l. connects start a l call ≡ false) (r .in-list) n) (r .same-connection);
             not-before = r .not-before;
             by-then = r .by-then;
           },
@@ -163,19 +164,19 @@ module _ (bytes : List ℕ) (a k : ℕ) where
       or-none : {x y : Bool} → x ≡ false → y ≡ false → (x || y) ≡ false
       or-none p q = rw (p, q)
 
-  gave : (h : List Call) → connectedAtEnd bytes a h ≡ true → k < length (linesOf bytes a h) → Found h (upToLine bytes a k h)
+  gave : (h : List Call) → connectedAtEnd start a h ≡ true → k < length (linesOf start a h) → Found h (upToLine start a k h)
   unfolding upToLine connectedAtEnd connectsIn
   gave [] c l = absurd (true≢false (sym c))
-  gave (call ∷ h) c l = cond-cases (Found (call ∷ h)) (not (connects bytes a h call) && ltb k (length (linesOf bytes a h))) (upToLine bytes a k h) (call ∷ h)
-      (λ q. let p = and-true (not (connects bytes a h call)) _ q in let n = not-true (connects bytes a h call) (p .0) in
-      one-more call h (upToLine bytes a k h) n (gave h (still-on bytes a call h n c) (ltb-true k (length (linesOf bytes a h)) (p .1))))
-      (λ q. ([], (call, (h, (refl, record { in-list = refl; same-connection = refl; not-before = from-here bytes a k h (connects bytes a h call) q; by-then = l })))))
+  gave (call ∷ h) c l = cond-cases (Found (call ∷ h)) (not (connects start a h call) && ltb k (length (linesOf start a h))) (upToLine start a k h) (call ∷ h)
+      (λ q. let p = and-true (not (connects start a h call)) _ q in let n = not-true (connects start a h call) (p .0) in
+      one-more call h (upToLine start a k h) n (gave h (still-on start a call h n c) (ltb-true k (length (linesOf start a h)) (p .1))))
+      (λ q. ([], (call, (h, (refl, record { in-list = refl; same-connection = refl; not-before = from-here start a k h (connects start a h call) q; by-then = l })))))
 
 -- a file that is cut
 pub cut-tells : CutTells
 cut-tells = record {
-  given = λ bytes a k h c l. gave bytes a k h c l;
-  cut = λ bytes a h c before l seen unseen e f j hs. cut-at bytes a j hs before l h (seen ++ unseen) c e (closed (sheetOf bytes) l seen unseen f);
-  whole = λ bytes a h c before l e j hs. cut-at bytes a j hs before l h [] c e refl;
+  given = λ start a k h c l. gave start a k h c l;
+  cut = λ start a h c before l seen unseen e f j hs. cut-at start a j hs before l h (seen ++ unseen) c e (closed (sheetOf start) l seen unseen f);
+  whole = λ start a h c before l e j hs. cut-at start a j hs before l h [] c e refl;
   by-clock = λ sheet before l seen t other n h. later-closes sheet before l seen t other n h;
 }

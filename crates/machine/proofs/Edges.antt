@@ -7,10 +7,10 @@ use Rattle.scientific.specs.Decimal.{exponentOk, isScientific, isWhole, million
 use Rattle.value.specs.Parameter.{decimalOk, floatDifferenceOf, periodOf, shortestOf}
 use Rattle.value.specs.Status.{statusOf, statusText}
 use Rattle.machine.specs.Report.{statusChanged, changed, beyond, moved, dueBy, due}
-use Rattle.machine.specs.Requests.{requestNamed, asked}
+use Rattle.machine.specs.Requests.{requestNamed, hidden, asked}
 use Rattle.machine.specs.Declined.{countFits, argumentsDeclined, lineDeclined}
 use Rattle.machine.specs.Edges.{Edges}
 
 pub edges : Edges
-unfolding isDigit blank letter titleByte kindByte plain escapeOf parse blankLine exponentOk isScientific isWhole millionths scientificOk decimalOk floatDifferenceOf periodOf shortestOf statusOf statusText statusChanged changed beyond moved dueBy due requestNamed asked countFits argumentsDeclined lineDeclined
+unfolding isDigit blank letter titleByte kindByte plain escapeOf parse blankLine exponentOk isScientific isWhole millionths scientificOk decimalOk floatDifferenceOf periodOf shortestOf statusOf statusText statusChanged changed beyond moved dueBy due requestNamed hidden asked countFits argumentsDeclined lineDeclined
 edges = record { lines = line-edges; ids = refl; statuses = refl; parameters = refl; differences = refl; periods = refl; rates = refl }

@@ -15,6 +15,7 @@ use Rattle.machine.specs.declared.Request.{Request}
 use Rattle.machine.specs.declared.Request.the-variants.{Halt, Restart}
 use Rattle.machine.specs.Places.{oneIf, isZero}
 use Rattle.machine.specs.State.{connected}
+use Rattle.machine.specs.Opening.{Start}
 use Rattle.machine.specs.Messages.{okReply, disconnect, toWhere, toAll}
 use Rattle.machine.specs.Requests.{Asked, Nothing, NotMessage, Reply, Unknown, Asks, asked, answer}
 use Rattle.machine.specs.Declined.{Line, Call, callOf}
@@ -84,31 +85,31 @@ module _ (s : State) (a c : ℕ) (ha : a < 8) (there : connected s a ≡ true) w
 
 -- Over a list of calls.
 
-module _ (bytes : List ℕ) (a c : ℕ) (said lent : List ℕ) (h : List Call) where
+module _ (start : Start) (a c : ℕ) (said lent : List ℕ) (h : List Call) where
   abbrev call : Call
   call = callOf (Line c said) lent
 
-  sent-ends : a < 8 → connected (after bytes h) a ≡ true → (isZero (step (after bytes h) call .number) && (asksFor Halt (asked said) || asksFor Restart (asked said))) ≡ true
-      → Ends a c (sentTo a (step (after bytes h) call .sent))
+  sent-ends : a < 8 → connected (after start h) a ≡ true → (isZero (step (after start h) call .number) && (asksFor Halt (asked said) || asksFor Restart (asked said))) ≡ true
+      → Ends a c (sentTo a (step (after start h) call .sent))
   unfolding perform
-  sent-ends ha there = by-cases (λ (e : Effect). (isZero (e .number) && (asksFor Halt (asked said) || asksFor Restart (asked said))) ≡ true → Ends a c (sentTo a (e .sent))) (after bytes h) call
-      (λ _ q. line-ends (after bytes h) a c ha there (asked said) q) (λ n _ q. absurd (true≢false (sym q)))
+  sent-ends ha there = by-cases (λ (e : Effect). (isZero (e .number) && (asksFor Halt (asked said) || asksFor Restart (asked said))) ≡ true → Ends a c (sentTo a (e .sent))) (after start h) call
+      (λ _ q. line-ends (after start h) a c ha there (asked said) q) (λ n _ q. absurd (true≢false (sym q)))
 
 -- the last line of a file
 pub last-line : LastLine
-last-line bytes a c said lent h on-end e = (
+last-line start a c said lent h on-end e = (
   ends .0,
   (
     map line (ends .1 .0),
     (
-      more-lines bytes a (call bytes a c said lent h) h (no-connect bytes a (call bytes a c said lent h) h refl) ∙ ap (λ l. linesOf bytes a h ++ l) (
-          ap (linesTo a) (sent-packets bytes a h (call bytes a c said lent h)) ∙ (lines-packed a _ ∙ (ap (map line) (ends .1 .1 .0) ∙ map-append line (ends .1 .0) (disconnect (ends .0) ∷ [])))
+      more-lines start a (call start a c said lent h) h (no-connect start a (call start a c said lent h) h refl) ∙ ap (λ l. linesOf start a h ++ l) (
+          ap (linesTo a) (sent-packets start a h (call start a c said lent h)) ∙ (lines-packed a _ ∙ (ap (map line) (ends .1 .1 .0) ∙ map-append line (ends .1 .0) (disconnect (ends .0) ∷ [])))
           ),
       length-map (ends .1 .0) line ∙ ends .1 .1 .1,
     ),
   ),
 )
   where
-    ends : Ends a c (sentTo a (step (after bytes h) (callOf (Line c said) lent) .sent))
-    ends = sent-ends bytes a c said lent h (at-end-small bytes a h on-end) (on bytes a h on-end)
-        (sym (ap (endsAll (Line c said)) (sent-packets bytes a h (callOf (Line c said) lent)) ∙ ends-is (after bytes h) (Line c said) lent) ∙ e)
+    ends : Ends a c (sentTo a (step (after start h) (callOf (Line c said) lent) .sent))
+    ends = sent-ends start a c said lent h (at-end-small start a h on-end) (on start a h on-end)
+        (sym (ap (endsAll (Line c said)) (sent-packets start a h (callOf (Line c said) lent)) ∙ ends-is (after start h) (Line c said) lent) ∙ e)

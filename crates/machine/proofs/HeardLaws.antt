@@ -19,7 +19,7 @@ use Rattle.machine.specs.Messages.{reportOf}
 use Rattle.machine.specs.Report.{dueAt, pairSends}
 use Rattle.machine.specs.Reader.{View, Other, Reported, news, viewAfter, viewBy, toldOf}
 use Rattle.machine.specs.TwoDevices.{sentTo}
-use Rattle.machine.proofs.TestLaws.{cond-false, eqb-refl, eqb-sym}
+use Rattle.machine.proofs.TestLaws.{cond-false, cond-either, eqb-refl, eqb-sym}
 use Rattle.machine.proofs.StateLaws.{place-client, place-sensor, due-below}
 
 module _ (sheet : Sheet) (j : ℕ) where
@@ -27,6 +27,18 @@ module _ (sheet : Sheet) (j : ℕ) where
   unfolding viewBy
   view-append [] ys v = refl
   view-append (m ∷ ms) ys v = view-append ms ys (viewAfter j (news sheet m) v)
+
+  -- messages that tell nothing
+  pub quiet-viewed : (ms : List Message) (v : View) → Each (λ m. news sheet m ≡ Other) ms → viewBy sheet j ms v ≡ v
+  unfolding viewBy viewAfter
+  quiet-viewed [] v h = refl
+  quiet-viewed (m ∷ ms) v h = ap (λ w. viewBy sheet j ms (viewAfter j w v)) (h .0) ∙ quiet-viewed ms v (h .1)
+
+-- what holds of every message that is sent holds of those to a client
+pub each-to : (P : Message → Type 0) (a : ℕ) (ds : List Delivery) → Each (λ (d : Delivery). P (d .message)) ds → Each P (sentTo a ds)
+unfolding sentTo
+each-to P a [] h = tt
+each-to P a (d ∷ ds) h = cond-either (Each P) (eqb (d .client) a) (d .message ∷ sentTo a ds) (sentTo a ds) (h .0, each-to P a ds (h .1)) (each-to P a ds (h .1))
 
 pub sent-append : (a : ℕ) (xs ys : List Delivery) → sentTo a (xs ++ ys) ≡ sentTo a xs ++ sentTo a ys
 unfolding sentTo
@@ -88,8 +100,8 @@ module _ (sheet : Sheet) (a j : ℕ) where
 
   -- deliveries that tell nothing
   pub quiet-heard : (ds : List Delivery) (v : View) → Each (λ (d : Delivery). news sheet (d .message) ≡ Other) ds → heard sheet a j ds v ≡ v
-  quiet-heard [] v h = heard-none v
-  quiet-heard (d ∷ ds) v h = heard-more (d .client) (d .message) ds v ∙ (ap (heard sheet a j ds) (other-heard (d .client) (d .message) v (h .0)) ∙ quiet-heard ds v (h .1))
+  unfolding heard
+  quiet-heard ds v h = quiet-viewed sheet j (sentTo a ds) v (each-to (λ m. news sheet m ≡ Other) a ds h)
 
   -- what is collected over places: where no place tells anything, and where one place alone does
   pub gather-quiet : (f : ℕ → List Delivery) (n : ℕ) (v : View) → ((i : ℕ) → i < n → (w : View) → heard sheet a j (f i) w ≡ w) → heard sheet a j (gather f n) v ≡ v

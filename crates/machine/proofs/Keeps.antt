@@ -2,7 +2,7 @@
 use Prim.Native.Nat.{ℕ, zero, suc, _-_, _≤_}
 use native.Mathlib.Omega.{arith}
 use mathlib.Core.Path.{_≡_, refl, sym, _∙_}
-use mathlib.Core.Bool.{Bool, true, false, cond, _&&_, true≢false}
+use mathlib.Core.Bool.{Bool, true, false, cond, not, _&&_, true≢false}
 use mathlib.Core.List.{List, _++_}
 use lib.Dec.{eqb, leb}
 use lib.ListN.{length, take, drop, replicate}
@@ -20,12 +20,12 @@ use Rattle.machine.specs.State.{connected, startLevel, clientAt, blankCl
 use Rattle.machine.specs.Range.{clientOk, noClients, isBlank, inRange}
 use Rattle.machine.specs.Report.{Work}
 use Rattle.machine.specs.Requests.{argument, levelOf, levelAsked, listed, strategyAsked, sampling, answer}
-use Rattle.machine.specs.Declined.{Action, Connect, Disconnect, Tick, Reading, Log, Line, Call, addressFits, tickFits, samplingDeclined, argumentsDeclined, actionDeclined}
+use Rattle.machine.specs.Declined.{Action, Connect, Disconnect, Tick, Reading, Log, Line, Call, connectRefused, addressFits, tickFits, samplingDeclined, argumentsDeclined, actionDeclined}
 use Rattle.machine.specs.Machine.{Effect, storedGiven, perform, step}
 use Rattle.machine.proofs.TestLaws.{and-true, and-in, or-true, passed, fitted, cond-cases}
 use Rattle.machine.proofs.SampleRange.{given-fits}
 use Rattle.machine.proofs.RangeLaws.{InRange, range-out, range-of, sensors-of}
-use Rattle.machine.proofs.StepLaws.{by-cases, accepted, client-fits, reading-fits, by-superseding, by-asking}
+use Rattle.machine.proofs.StepLaws.{by-cases, accepted, client-last, reading-fits, by-superseding, by-asking}
 use Rattle.machine.proofs.SamplingLaws.{listed-below, setting-suits}
 use Rattle.machine.proofs.StateRange.{clock-kept, level-kept, emptied-kept, reading-kept, client-kept, visit-kept, sampled-kept}
 
@@ -35,8 +35,9 @@ unfolding isBlank
 titled s r h = or-true (titlesOk (s .sheet) ≡ true) (titlesOk (s .sheet)) (isBlank s) (r .titles-in) (λ t. t)
     (λ b. let x = and-true (titlesNone (s .sheet)) _ b in
     let y = and-true (eqb (s .sheet .count) 0) _ (x .1) in
-    let z = and-true (noClients (s .clients)) _ (y .1) in
-    let w = and-true (s .halted) (eqb (s .level) 0 && eqb (s .clock) 0) (z .1) in
+    let p = and-true (eqb (s .sheet .profile) 0) _ (y .1) in
+    let z = and-true (noClients (s .clients)) _ (p .1) in
+    let w = and-true (s .halted) _ (z .1) in
     absurd (true≢false (sym (w .0) ∙ h)))
 
 -- What a call gives the state.
@@ -93,9 +94,9 @@ module _ (s : State) (r : InRange s) (t : titlesOk (s .sheet) ≡ true) (c : ℕ
 
 perform-kept : (s : State) → InRange s → titlesOk (s .sheet) ≡ true → (d : Action) → actionDeclined (s .sheet) s d ≡ 0 → InRange (perform (s .sheet) s d .next)
 unfolding perform actionDeclined tickFits withReading
-perform-kept s r t (Connect c address) e = let a = client-fits (connected s c) c (cond (addressFits address) 0 7) e in
-    client-kept s r t c (clientAt address) (connected-fits address (fitted (addressFits address) 7 0 (omega arith) (a .1 .1) .0))
-perform-kept s r t (Disconnect c) e = client-kept s r t c blankClient unconnected-fits
+perform-kept s r t (Connect c address) e = let a = client-last (s .sheet .profile) (connectRefused (s .sheet .profile) (connected s c)) c (cond (addressFits address) 0 7) e in
+    client-kept s r t c (clientAt address) (a .0) (connected-fits address (fitted (addressFits address) 7 0 (omega arith) (a .1 .1) .0))
+perform-kept s r t (Disconnect c) e = client-kept s r t c blankClient (client-last (s .sheet .profile) (not (connected s c)) c 0 e .0) unconnected-fits
 perform-kept s r t (Tick n) e =
     let a = and-true (leb (s .clock) n) (inTime n) (fitted (leb (s .clock) n && inTime n) 8 0 (omega arith) e .0) in
     visit-kept (withClock s n) (clock-kept s r t n (leb-true (s .clock) n (a .0)) (leb-true n 9999999999999 (a .1))) t Ticked

@@ -19,6 +19,7 @@ use Rattle.machine.specs.Places.{isZero}
 use Rattle.machine.specs.Sheet.{sensorOf, notOnSheet}
 use Rattle.machine.specs.State.{storedOf, present, isUnknown, supersedes}
 use Rattle.machine.specs.Range.{inRange}
+use Rattle.machine.specs.Opening.{Start}
 use Rattle.machine.specs.Messages.{statusFor, informWith, valueArgs, valueInform}
 use Rattle.machine.specs.Report.{Work}
 use Rattle.machine.specs.Declined.{Arrival, arrival, Action, Connect, Disconnect, Tick, Reading, Log, Line, Call, callOf, rowsBehind, readingDeclined, actionDeclined, declined, refusal}
@@ -84,45 +85,45 @@ unknown-yields s j g t lent z u = by-cases (λ (e : Effect). e .number ≡ 0 →
 
 -- Over a list of calls.
 
-module _ (bytes : List ℕ) (j : ℕ) where
+module _ (start : Start) (j : ℕ) where
   -- a sensor of the sheet has its place in the arrays
-  place : j < sheetOf bytes .count → j < 32
-  place hs = omega (arith, sheet-rules bytes .count-most)
+  place : j < sheetOf start .count → j < 32
+  place hs = omega (arith, sheet-rules start .count-most)
 
   -- a reading that returned 0 is of a sensor on the sheet
-  on-sheet : (r : Arrival) (lent : List ℕ) (h : List Call) → returnedZero bytes h (callOf (Reading j r) lent) ≡ true → j < sheetOf bytes .count
-  on-sheet r lent h = by-cases (λ (e : Effect). isZero (e .number) ≡ true → j < sheetOf bytes .count) (after bytes h) (callOf (Reading j r) lent)
-      (λ z _. subst (λ sheet. j < sheet .count) (sheet-is bytes h) (reading-fits (after bytes h) j r (accepted (after bytes h) (callOf (Reading j r) lent) z .fits) .on-sheet))
+  on-sheet : (r : Arrival) (lent : List ℕ) (h : List Call) → returnedZero start h (callOf (Reading j r) lent) ≡ true → j < sheetOf start .count
+  on-sheet r lent h = by-cases (λ (e : Effect). isZero (e .number) ≡ true → j < sheetOf start .count) (after start h) (callOf (Reading j r) lent)
+      (λ z _. subst (λ sheet. j < sheet .count) (sheet-is start h) (reading-fits (after start h) j r (accepted (after start h) (callOf (Reading j r) lent) z .fits) .on-sheet))
       (λ n _ e. absurd (true≢false (sym e)))
 
-  passed-over : (r : Arrival) (lent : List ℕ) (h : List Call) → Older bytes j r lent h
-      → (packetsOf bytes h (callOf (Reading j r) lent) ≡ []) × (after bytes (callOf (Reading j r) lent ∷ h) ≡ after bytes h)
+  passed-over : (r : Arrival) (lent : List ℕ) (h : List Call) → Older start j r lent h
+      → (packetsOf start h (callOf (Reading j r) lent) ≡ []) × (after start (callOf (Reading j r) lent ∷ h) ≡ after start h)
   unfolding after
-  passed-over r lent h o = (sent-packets bytes 0 h (callOf (Reading j r) lent) ∙ ap (map packet) (left .0), left .1)
+  passed-over r lent h o = (sent-packets start 0 h (callOf (Reading j r) lent) ∙ ap (map packet) (left .0), left .1)
     where
-      hs : j < sheetOf bytes .count
+      hs : j < sheetOf start .count
       hs = on-sheet r lent h (o .accepted)
 
-      left : (step (after bytes h) (callOf (Reading j r) lent) .sent ≡ []) × (step (after bytes h) (callOf (Reading j r) lent) .next ≡ after bytes h)
-      left = by-newer bytes j (place hs) hs (λ (e : Effect). (e .sent ≡ []) × (e .next ≡ after bytes h)) r lent h (o .accepted) (λ e. absurd (true≢false (sym e ∙ o .older))) (λ _. (refl, refl))
+      left : (step (after start h) (callOf (Reading j r) lent) .sent ≡ []) × (step (after start h) (callOf (Reading j r) lent) .next ≡ after start h)
+      left = by-newer start j (place hs) hs (λ (e : Effect). (e .sent ≡ []) × (e .next ≡ after start h)) r lent h (o .accepted) (λ e. absurd (true≢false (sym e ∙ o .older))) (λ _. (refl, refl))
 
-  stored : (r : Arrival) (lent : List ℕ) (h : List Call) → Newer bytes j r lent h → storedOf (after bytes (callOf (Reading j r) lent ∷ h)) j ≡ storedGiven (sensorOf (sheetOf bytes) j) r
+  stored : (r : Arrival) (lent : List ℕ) (h : List Call) → Newer start j r lent h → storedOf (after start (callOf (Reading j r) lent ∷ h)) j ≡ storedGiven (sensorOf (sheetOf start) j) r
   unfolding after
-  stored r lent h o = by-newer bytes j (place hs) hs (λ (e : Effect). storedOf (e .next) j ≡ storedGiven (sensorOf (sheetOf bytes) j) r) r lent h (o .accepted)
-      (λ _. stored-next (after bytes h) j j (place hs) r ∙ (cond-true (eqb j j) _ _ (eqb-refl j) ∙ ap (λ sheet. storedGiven (sensorOf sheet j) r) (sheet-is bytes h)))
+  stored r lent h o = by-newer start j (place hs) hs (λ (e : Effect). storedOf (e .next) j ≡ storedGiven (sensorOf (sheetOf start) j) r) r lent h (o .accepted)
+      (λ _. stored-next (after start h) j j (place hs) r ∙ (cond-true (eqb j j) _ _ (eqb-refl j) ∙ ap (λ sheet. storedGiven (sensorOf sheet j) r) (sheet-is start h)))
       (λ e. absurd (true≢false (sym (o .newer) ∙ e)))
     where
-      hs : j < sheetOf bytes .count
+      hs : j < sheetOf start .count
       hs = on-sheet r lent h (o .accepted)
 
-  shown : j < sheetOf bytes .count → (id : ℕ) (h : List Call) → valueInform id (after bytes h) (sheetOf bytes) j
-      ≡ informWith id (text "sensor-value") (valueArgs (timeFrom (lastReading bytes j h)) (sensorOf (sheetOf bytes) j) (sampleFrom (sensorOf (sheetOf bytes) j) (lastReading bytes j h)))
+  shown : j < sheetOf start .count → (id : ℕ) (h : List Call) → valueInform id (after start h) (sheetOf start) j
+      ≡ informWith id (text "sensor-value") (valueArgs (timeFrom (lastReading start j h)) (sensorOf (sheetOf start) j) (sampleFrom (sensorOf (sheetOf start) j) (lastReading start j h)))
   unfolding valueInform
-  shown hs id h = let k = stored-by bytes j (place hs) hs h in ap₂ (λ t x. informWith id (text "sensor-value") (valueArgs t (sensorOf (sheetOf bytes) j) x)) (k .time-is) (k .sample-is)
+  shown hs id h = let k = stored-by start j (place hs) hs h in ap₂ (λ t x. informWith id (text "sensor-value") (valueArgs t (sensorOf (sheetOf start) j) x)) (k .time-is) (k .sample-is)
 
-  never-ahead : j < sheetOf bytes .count → (h : List Call) → timeFrom (lastReading bytes j h) ≤ clockOf bytes h
-  never-ahead hs h = rw (← stored-by bytes j (place hs) hs h .time-is, ← clock-is bytes h)
-      (stored-is (after bytes h) (range-out (after bytes h) (after-in-range bytes h)) j (subst (λ sheet. j < sheet .count) (sym (sheet-is bytes h)) hs) (place hs) .1)
+  never-ahead : j < sheetOf start .count → (h : List Call) → timeFrom (lastReading start j h) ≤ clockOf start h
+  never-ahead hs h = rw (← stored-by start j (place hs) hs h .time-is, ← clock-is start h)
+      (stored-is (after start h) (range-out (after start h) (after-in-range start h)) j (subst (λ sheet. j < sheet .count) (sym (sheet-is start h)) hs) (place hs) .1)
 
   later-time : (action : Action) (before : Option Arrival) → timeFrom before ≤ timeFrom (readingBy j action before)
   later-time (Connect c address) before = omega arith
@@ -137,18 +138,18 @@ module _ (bytes : List ℕ) (j : ℕ) where
   later-time (Log level logger said) before = omega arith
   later-time (Line c line) before = omega arith
 
-  never-back : (later h : List Call) → timeFrom (lastReading bytes j h) ≤ timeFrom (lastReading bytes j (later ++ h))
+  never-back : (later h : List Call) → timeFrom (lastReading start j h) ≤ timeFrom (lastReading start j (later ++ h))
   unfolding lastReading
   never-back [] h = omega arith
-  never-back (call ∷ later) h = le-trans (never-back later h) (cond-either (λ o. timeFrom (lastReading bytes j (later ++ h)) ≤ timeFrom o) (returnedZero bytes (later ++ h) call) _ _
-      (later-time (call .action) (lastReading bytes j (later ++ h))) (omega arith))
+  never-back (call ∷ later) h = le-trans (never-back later h) (cond-either (λ o. timeFrom (lastReading start j (later ++ h)) ≤ timeFrom o) (returnedZero start (later ++ h) call) _ _
+      (later-time (call .action) (lastReading start j (later ++ h))) (omega arith))
 
-  at-clock : j < sheetOf bytes .count → (h : List Call) → superseding (clockOf bytes h) (lastReading bytes j h) ≡ true
-  at-clock hs h = go (lastReading bytes j h) (never-ahead hs h)
+  at-clock : j < sheetOf start .count → (h : List Call) → superseding (clockOf start h) (lastReading start j h) ≡ true
+  at-clock hs h = go (lastReading start j h) (never-ahead hs h)
     where
-      go : (o : Option Arrival) → timeFrom o ≤ clockOf bytes h → superseding (clockOf bytes h) o ≡ true
+      go : (o : Option Arrival) → timeFrom o ≤ clockOf start h → superseding (clockOf start h) o ≡ true
       go none l = refl
-      go (some r) l = le-leb (r .time) (clockOf bytes h) l
+      go (some r) l = le-leb (r .time) (clockOf start h) l
 
 -- document 02, (g)
 pub late-readings : LateReadings
@@ -156,10 +157,10 @@ late-readings = record {
   ahead = row-ahead;
   left-as-it-was = refused-left;
   unknown-yields = unknown-yields;
-  passed-over = λ bytes j r lent h o. passed-over bytes j r lent h o;
-  stored = λ bytes j r lent h o. stored bytes j r lent h o;
-  never-ahead = λ bytes j hs h. never-ahead bytes j hs h;
-  shown = λ bytes j hs id h. shown bytes j hs id h;
-  never-back = λ bytes j later h. never-back bytes j later h;
-  at-clock = λ bytes j hs h. at-clock bytes j hs h;
+  passed-over = λ start j r lent h o. passed-over start j r lent h o;
+  stored = λ start j r lent h o. stored start j r lent h o;
+  never-ahead = λ start j hs h. never-ahead start j hs h;
+  shown = λ start j hs id h. shown start j hs id h;
+  never-back = λ start j later h. never-back start j later h;
+  at-clock = λ start j hs h. at-clock start j hs h;
 }

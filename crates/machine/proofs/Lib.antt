@@ -66,5 +66,6 @@ pub mod Others
 pub mod Connectable
 pub mod StartsAtWarn
 pub mod SeveralNames
+pub mod SingleClient
 pub mod LateReadings
 pub mod Edges

@@ -17,6 +17,7 @@ use Rattle.machine.specs.declared.State.{State}
 use Rattle.machine.specs.declared.Request.the-variants.{Halt, Restart}
 use Rattle.machine.specs.Places.{only, isZero}
 use Rattle.machine.specs.Range.{inRange}
+use Rattle.machine.specs.Opening.{Start}
 use Rattle.machine.specs.Declined.{Action, Connect, Disconnect, Tick, Reading, Log, Line, Call, callOf}
 use Rattle.machine.specs.Machine.{step}
 use Rattle.machine.specs.TwoDevices.{after, returnedZero, packetsOf, endsAll, withoutEnd}
@@ -36,8 +37,8 @@ use Rattle.machine.proofs.SharedCalls.{step-alike}
 use Rattle.machine.proofs.OthersCalls.{step-leaves}
 
 -- "answered `ok`" is accepted
-ends-by-number : (bytes : List ℕ) (h : List Call) (call : Call) → endsAll (call .action) (packetsOf bytes h call) ≡ (isZero (step (after bytes h) call .number) && endsConnections (call .action))
-ends-by-number bytes h call = ap (endsAll (call .action)) (sent-packets bytes 0 h call) ∙ ends-is (after bytes h) (call .action) (call .lent)
+ends-by-number : (start : Start) (h : List Call) (call : Call) → endsAll (call .action) (packetsOf start h call) ≡ (isZero (step (after start h) call .number) && endsConnections (call .action))
+ends-by-number start h call = ap (endsAll (call .action)) (sent-packets start 0 h call) ∙ ends-is (after start h) (call .action) (call .lent)
 
 asks-end-is : (action : Action) → endsConnections action ≡ asksEnd action
 asks-end-is (Connect c address) = refl
@@ -64,45 +65,45 @@ unfoldable alone : List SharedCall → List Call
 alone [] = []
 alone (x ∷ xs) = callOf (x .action) (lentFor (x .short)) ∷ alone xs
 
-module _ (bytes : List ℕ) (a : ℕ) (ha : a < 8) where
+module _ (start : Start) (a : ℕ) (ha : a < 8) where
   -- the device with all calls, and the one with the shared calls alone
   record Follows (h k : List Call) : Type 0 where
-    pub states : AlikeFor a (after bytes h) (after bytes k)
-    pub told : toldEver bytes a h ≡ toldEver bytes a k
+    pub states : AlikeFor a (after start h) (after start k)
+    pub told : toldEver start a h ≡ toldEver start a k
 
   shared-step : (call : Call) (h k : List Call) → isShared a (call .action) ≡ true → Follows h k → Follows (call ∷ h) (callOf (call .action) (lentFor (sharedOf call .short)) ∷ k)
   unfolding after
-  shared-step call h k e f = record { states = both .0; told = ever-more bytes a h call ∙ (ap₂ _++_ (f .told) (both .1) ∙ sym (ever-more bytes a k other)) }
+  shared-step call h k e f = record { states = both .0; told = ever-more start a h call ∙ (ap₂ _++_ (f .told) (both .1) ∙ sym (ever-more start a k other)) }
     where
       other : Call
       other = callOf (call .action) (lentFor (sharedOf call .short))
 
       Both : State → Type 0
-      Both t = AlikeFor a (step (after bytes h) call .next) (step t other .next) × (toldTo a (step (after bytes h) call .sent) ≡ toldTo a (step t other .sent))
+      Both t = AlikeFor a (step (after start h) call .next) (step t other .next) × (toldTo a (step (after start h) call .sent) ≡ toldTo a (step t other .sent))
 
-      both : Both (after bytes k)
-      both = by-beside (λ t. inRange t ≡ true → Both t) a (after bytes h) (after bytes k) (f .states)
-          (λ l ks ps g r. step-alike a ha (after bytes h) (range-out (after bytes h) (after-in-range bytes h)) l ks ps g (call .action) e (call .lent) (other .lent)
-          (sym (lent-short (sharedOf call .short))) (after-in-range bytes h) r)
-          (after-in-range bytes k)
+      both : Both (after start k)
+      both = by-beside (λ t. inRange t ≡ true → Both t) a (after start h) (after start k) (f .states)
+          (λ l ks ps g r. step-alike a ha (after start h) (range-out (after start h) (after-in-range start h)) l ks ps g (call .action) e (call .lent) (other .lent)
+          (sym (lent-short (sharedOf call .short))) (after-in-range start h) r)
+          (after-in-range start k)
 
-  other-step : (call : Call) (h k : List Call) → isShared a (call .action) ≡ false → endsAll (call .action) (packetsOf bytes h call) ≡ false → Follows h k → Follows (call ∷ h) k
+  other-step : (call : Call) (h k : List Call) → isShared a (call .action) ≡ false → endsAll (call .action) (packetsOf start h call) ≡ false → Follows h k → Follows (call ∷ h) k
   unfolding after
   other-step call h k e z f = record {
     states = alike-trans (alike-sym (left .0)) (f .states);
-    told = ever-more bytes a h call ∙ (ap (λ ms. toldEver bytes a h ++ ms) (left .1) ∙ (append-nil (toldEver bytes a h) ∙ f .told));
+    told = ever-more start a h call ∙ (ap (λ ms. toldEver start a h ++ ms) (left .1) ∙ (append-nil (toldEver start a h) ∙ f .told));
   }
     where
-      left : AlikeFor a (after bytes h) (step (after bytes h) call .next) × (toldTo a (step (after bytes h) call .sent) ≡ [])
-      left = step-leaves a ha (after bytes h) call e (sym (ends-by-number bytes h call) ∙ z)
+      left : AlikeFor a (after start h) (step (after start h) call .next) × (toldTo a (step (after start h) call .sent) ≡ [])
+      left = step-leaves a ha (after start h) call e (sym (ends-by-number start h call) ∙ z)
 
-  follows : (h : List Call) → othersEnd bytes a h ≡ false → Follows h (alone (sharedCalls a h))
+  follows : (h : List Call) → othersEnd start a h ≡ false → Follows h (alone (sharedCalls a h))
   unfolding othersEnd only alone
-  follows [] z = record { states = alike-refl a (after bytes []); told = refl }
-  follows (call ∷ h) z = go (isShared a (call .action)) refl (or-false (not (isShared a (call .action)) && endsAll (call .action) (packetsOf bytes h call)) (othersEnd bytes a h) z) (follows h)
+  follows [] z = record { states = alike-refl a (after start []); told = refl }
+  follows (call ∷ h) z = go (isShared a (call .action)) refl (or-false (not (isShared a (call .action)) && endsAll (call .action) (packetsOf start h call)) (othersEnd start a h) z) (follows h)
     where
-      go : (b : Bool) → isShared a (call .action) ≡ b → ((not b && endsAll (call .action) (packetsOf bytes h call)) ≡ false) × (othersEnd bytes a h ≡ false)
-          → (othersEnd bytes a h ≡ false → Follows h (alone (sharedCalls a h))) → Follows (call ∷ h) (alone (map sharedOf (cond b (call ∷ sharedIn a h) (sharedIn a h))))
+      go : (b : Bool) → isShared a (call .action) ≡ b → ((not b && endsAll (call .action) (packetsOf start h call)) ≡ false) × (othersEnd start a h ≡ false)
+          → (othersEnd start a h ≡ false → Follows h (alone (sharedCalls a h))) → Follows (call ∷ h) (alone (map sharedOf (cond b (call ∷ sharedIn a h) (sharedIn a h))))
       go true e q ih = shared-step call h (alone (sharedCalls a h)) e (ih (q .1))
       go false e q ih = other-step call h (alone (sharedCalls a h)) e (q .0) (ih (q .1))
 
@@ -111,42 +112,42 @@ module _ (bytes : List ℕ) (a : ℕ) (ha : a < 8) where
 shared-reverse : (a : ℕ) (calls : List Call) → sharedCalls a (reverse calls) ≡ reverse (sharedCalls a calls)
 shared-reverse a calls = ap (map sharedOf) (only-reverse (λ (call : Call). isShared a (call .action)) calls) ∙ map-reverseAux sharedOf (sharedIn a calls) []
 
-module _ (bytes : List ℕ) (a : ℕ) (one two : List Call) (g : OneDispatcher bytes a one two) where
+module _ (start : Start) (a : ℕ) (one two : List Call) (g : OneDispatcher start a one two) where
   -- both meet in the device with the shared calls alone
   same-reverse : sharedCalls a (reverse one) ≡ sharedCalls a (reverse two)
   same-reverse = shared-reverse a one ∙ (ap reverse (g .same-calls) ∙ sym (shared-reverse a two))
 
-  same-after : a < 8 → AlikeFor a (after bytes (reverse one)) (after bytes (reverse two))
-  same-after ha = alike-trans (follows bytes a ha (reverse one) (g .none-ends) .states)
-      (subst (λ xs. AlikeFor a (after bytes (alone xs)) (after bytes (reverse two))) (sym same-reverse) (alike-sym (follows bytes a ha (reverse two) (g .none-ends-there) .states)))
+  same-after : a < 8 → AlikeFor a (after start (reverse one)) (after start (reverse two))
+  same-after ha = alike-trans (follows start a ha (reverse one) (g .none-ends) .states)
+      (subst (λ xs. AlikeFor a (after start (alone xs)) (after start (reverse two))) (sym same-reverse) (alike-sym (follows start a ha (reverse two) (g .none-ends-there) .states)))
 
-  same-told : a < 8 → toldEver bytes a (reverse one) ≡ toldEver bytes a (reverse two)
-  same-told ha = follows bytes a ha (reverse one) (g .none-ends) .told
-      ∙ (ap (λ xs. toldEver bytes a (alone xs)) same-reverse ∙ sym (follows bytes a ha (reverse two) (g .none-ends-there) .told))
+  same-told : a < 8 → toldEver start a (reverse one) ≡ toldEver start a (reverse two)
+  same-told ha = follows start a ha (reverse one) (g .none-ends) .told
+      ∙ (ap (λ xs. toldEver start a (alone xs)) same-reverse ∙ sym (follows start a ha (reverse two) (g .none-ends-there) .told))
 
 -- a number that is no client's is told nothing
-no-client : (bytes : List ℕ) (a : ℕ) → 8 ≤ a → (h : List Call) → toldEver bytes a h ≡ []
-no-client bytes a l [] = ever-none bytes a
-no-client bytes a l (call ∷ h) = ever-more bytes a h call ∙ ap₂ _++_ (no-client bytes a l h) (aside-told a (step (after bytes h) call .sent)
-    (each-weaker (λ (d : Delivery). d .client < 8) (Aside a) (λ d k. other (d .client) (own (d .message)) k (eqb (d .client) a) refl) (step (after bytes h) call .sent) (sent-to-clients (after bytes h) call)))
+no-client : (start : Start) (a : ℕ) → 8 ≤ a → (h : List Call) → toldEver start a h ≡ []
+no-client start a l [] = ever-none start a
+no-client start a l (call ∷ h) = ever-more start a h call ∙ ap₂ _++_ (no-client start a l h) (aside-told a (step (after start h) call .sent)
+    (each-weaker (λ (d : Delivery). d .client < 8) (Aside a) (λ d k. other (d .client) (own (d .message)) k (eqb (d .client) a) refl) (step (after start h) call .sent) (sent-to-clients (after start h) call)))
   where
     other : (c : ℕ) (o : Bool) → c < 8 → (b : Bool) → eqb c a ≡ b → (b && o) ≡ false
     other c o k true e = absurd (omega (arith, eqb-true c a e))
     other c o k false e = refl
 
-told-alike : (bytes : List ℕ) (a : ℕ) (one two : List Call) → OneDispatcher bytes a one two → toldEver bytes a (reverse one) ≡ toldEver bytes a (reverse two)
-told-alike bytes a one two g = go (ltb a 8) refl
+told-alike : (start : Start) (a : ℕ) (one two : List Call) → OneDispatcher start a one two → toldEver start a (reverse one) ≡ toldEver start a (reverse two)
+told-alike start a one two g = go (ltb a 8) refl
   where
-    go : (b : Bool) → ltb a 8 ≡ b → toldEver bytes a (reverse one) ≡ toldEver bytes a (reverse two)
-    go true l = same-told bytes a one two g (ltb-true a 8 l)
-    go false l = no-client bytes a (ltb-false a 8 l) (reverse one) ∙ sym (no-client bytes a (ltb-false a 8 l) (reverse two))
+    go : (b : Bool) → ltb a 8 ≡ b → toldEver start a (reverse one) ≡ toldEver start a (reverse two)
+    go true l = same-told start a one two g (ltb-true a 8 l)
+    go false l = no-client start a (ltb-false a 8 l) (reverse one) ∙ sym (no-client start a (ltb-false a 8 l) (reverse two))
 
 -- The assumption met.
 
-accepted-is : (bytes : List ℕ) (h : List Call) (call : Call) → endsAll (call .action) (packetsOf bytes h call) ≡ (returnedZero bytes h call && asksEnd (call .action))
-accepted-is bytes h call = ends-by-number bytes h call ∙ ap (λ b. returnedZero bytes h call && b) (asks-end-is (call .action))
+accepted-is : (start : Start) (h : List Call) (call : Call) → endsAll (call .action) (packetsOf start h call) ≡ (returnedZero start h call && asksEnd (call .action))
+accepted-is start h call = ends-by-number start h call ∙ ap (λ b. returnedZero start h call && b) (asks-end-is (call .action))
 
-module _ (bytes : List ℕ) (a : ℕ) where
+module _ (start : Start) (a : ℕ) where
   -- a call more, at the end
   shared-more : (calls : List Call) (call : Call) (b : Bool) → isShared a (call .action) ≡ b → sharedCalls a (calls ++ (call ∷ [])) ≡ sharedCalls a calls ++ cond b (sharedOf call ∷ []) []
   unfolding only
@@ -156,55 +157,55 @@ module _ (bytes : List ℕ) (a : ℕ) where
       go true e = rw e
       go false e = rw e
 
-  ends-more : (calls : List Call) (call : Call) → (not (isShared a (call .action)) && endsAll (call .action) (packetsOf bytes (reverse calls) call)) ≡ false
-      → othersEnd bytes a (reverse calls) ≡ false → othersEnd bytes a (reverse (calls ++ (call ∷ []))) ≡ false
+  ends-more : (calls : List Call) (call : Call) → (not (isShared a (call .action)) && endsAll (call .action) (packetsOf start (reverse calls) call)) ≡ false
+      → othersEnd start a (reverse calls) ≡ false → othersEnd start a (reverse (calls ++ (call ∷ []))) ≡ false
   unfolding othersEnd
-  ends-more calls call e z = ap (othersEnd bytes a) (reverse-append calls (call ∷ [])) ∙ rw (e, z)
+  ends-more calls call e z = ap (othersEnd start a) (reverse-append calls (call ∷ [])) ∙ rw (e, z)
 
-  with-shared : (one two : List Call) → OneDispatcher bytes a one two → (call other : Call) → isShared a (call .action) ≡ true → sharedOf call ≡ sharedOf other
-      → OneDispatcher bytes a (one ++ (call ∷ [])) (two ++ (other ∷ []))
+  with-shared : (one two : List Call) → OneDispatcher start a one two → (call other : Call) → isShared a (call .action) ≡ true → sharedOf call ≡ sharedOf other
+      → OneDispatcher start a (one ++ (call ∷ [])) (two ++ (other ∷ []))
   with-shared one two g call other e q = record {
     same-calls = shared-more one call true e ∙ (ap₂ (λ l x. l ++ (x ∷ [])) (g .same-calls) q ∙ sym (shared-more two other true there));
-    none-ends = ends-more one call (ap (λ b. not b && endsAll (call .action) (packetsOf bytes (reverse one) call)) e) (g .none-ends);
-    none-ends-there = ends-more two other (ap (λ b. not b && endsAll (other .action) (packetsOf bytes (reverse two) other)) there) (g .none-ends-there);
+    none-ends = ends-more one call (ap (λ b. not b && endsAll (call .action) (packetsOf start (reverse one) call)) e) (g .none-ends);
+    none-ends-there = ends-more two other (ap (λ b. not b && endsAll (other .action) (packetsOf start (reverse two) other)) there) (g .none-ends-there);
   }
     where
       there : isShared a (other .action) ≡ true
       there = ap (λ (x : SharedCall). isShared a (x .action)) (sym q) ∙ e
 
-  with-other : (one two : List Call) → OneDispatcher bytes a one two → (call : Call) → isShared a (call .action) ≡ false
-      → (returnedZero bytes (reverse one) call && asksEnd (call .action)) ≡ false → OneDispatcher bytes a (one ++ (call ∷ [])) two
+  with-other : (one two : List Call) → OneDispatcher start a one two → (call : Call) → isShared a (call .action) ≡ false
+      → (returnedZero start (reverse one) call && asksEnd (call .action)) ≡ false → OneDispatcher start a (one ++ (call ∷ [])) two
   with-other one two g call e z = record {
     same-calls = shared-more one call false e ∙ (append-nil (sharedCalls a one) ∙ g .same-calls);
-    none-ends = ends-more one call (rw e (accepted-is bytes (reverse one) call ∙ z)) (g .none-ends);
+    none-ends = ends-more one call (rw e (accepted-is start (reverse one) call ∙ z)) (g .none-ends);
     none-ends-there = g .none-ends-there;
   }
 
   -- among shared calls none is another's
-  none-other : (h : List Call) → othersEnd bytes a (sharedIn a h) ≡ false
+  none-other : (h : List Call) → othersEnd start a (sharedIn a h) ≡ false
   unfolding othersEnd only
   none-other [] = refl
   none-other (call ∷ h) = go (isShared a (call .action)) refl (none-other h)
     where
-      go : (b : Bool) → isShared a (call .action) ≡ b → othersEnd bytes a (sharedIn a h) ≡ false → othersEnd bytes a (cond b (call ∷ sharedIn a h) (sharedIn a h)) ≡ false
+      go : (b : Bool) → isShared a (call .action) ≡ b → othersEnd start a (sharedIn a h) ≡ false → othersEnd start a (cond b (call ∷ sharedIn a h) (sharedIn a h)) ≡ false
       go true e ih = rw e ih
       go false e ih = ih
 
-  without-others : (calls : List Call) → othersEnd bytes a (reverse calls) ≡ false → OneDispatcher bytes a calls (sharedIn a calls)
+  without-others : (calls : List Call) → othersEnd start a (reverse calls) ≡ false → OneDispatcher start a calls (sharedIn a calls)
   without-others calls z = record {
     same-calls = ap (map sharedOf) (sym (only-within (λ (call : Call). isShared a (call .action)) (λ (call : Call). isShared a (call .action)) (λ call e. e) calls));
     none-ends = z;
-    none-ends-there = ap (othersEnd bytes a) (sym (only-reverse (λ (call : Call). isShared a (call .action)) calls)) ∙ none-other (reverse calls);
+    none-ends-there = ap (othersEnd start a) (sym (only-reverse (λ (call : Call). isShared a (call .action)) calls)) ∙ none-other (reverse calls);
   }
 
 pub others-met : OthersMet
 unfolding othersEnd
 others-met = record {
   accepted = accepted-is;
-  fresh = λ bytes a. record { same-calls = refl; none-ends = refl; none-ends-there = refl };
+  fresh = λ start a. record { same-calls = refl; none-ends = refl; none-ends-there = refl };
   shared-call = with-shared;
   others-call = with-other;
-  either-way = λ bytes a one two g. record { same-calls = sym (g .same-calls); none-ends = g .none-ends-there; none-ends-there = g .none-ends };
+  either-way = λ start a one two g. record { same-calls = sym (g .same-calls); none-ends = g .none-ends-there; none-ends-there = g .none-ends };
   alone = without-others;
 }
 
@@ -212,9 +213,9 @@ others-met = record {
 
 pub others-reach : OthersReach
 others-reach = record {
-  same-lines = λ bytes a one two g. ever-told bytes a (reverse one) ∙ (ap (map line) (told-alike bytes a one two g) ∙ sym (ever-told bytes a (reverse two)));
-  same-state = λ bytes a ha one two g. same-after bytes a one two g ha;
-  by-name = λ is bytes a calls. ever-named bytes a is (reverse calls);
+  same-lines = λ start a one two g. ever-told start a (reverse one) ∙ (ap (map line) (told-alike start a one two g) ∙ sym (ever-told start a (reverse two)));
+  same-state = λ start a ha one two g. same-after start a one two g ha;
+  by-name = λ is start a calls. ever-named start a is (reverse calls);
 }
 
 -- in a line on sensors others do not show
@@ -231,7 +232,7 @@ line-own malformed e = absurd (true≢false (sym e))
 line-own (message m) e = sensors-own (m .name) e
 
 pub others-apart : OthersApart
-others-apart bytes a one two g = sym (within one) ∙ (ap (only (named ofSensors)) (others-reach .same-lines bytes a one two g) ∙ within two)
+others-apart start a one two g = sym (within one) ∙ (ap (only (named ofSensors)) (others-reach .same-lines start a one two g) ∙ within two)
   where
-    within : (calls : List Call) → only (named ofSensors) (only (named (λ name. not (ofOthers name))) (linesEver bytes a (reverse calls))) ≡ only (named ofSensors) (linesEver bytes a (reverse calls))
-    within calls = only-within (named ofSensors) (named (λ name. not (ofOthers name))) (λ l e. line-own (parse (withoutEnd l)) e) (linesEver bytes a (reverse calls))
+    within : (calls : List Call) → only (named ofSensors) (only (named (λ name. not (ofOthers name))) (linesEver start a (reverse calls))) ≡ only (named ofSensors) (linesEver start a (reverse calls))
+    within calls = only-within (named ofSensors) (named (λ name. not (ofOthers name))) (λ l e. line-own (parse (withoutEnd l)) e) (linesEver start a (reverse calls))

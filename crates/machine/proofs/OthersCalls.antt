@@ -20,12 +20,12 @@ use Rattle.machine.specs.Messages
 use Rattle.machine.specs.Report.{Work}
 use Rattle.machine.specs.Requests.{Asked, Nothing, NotMessage, Reply, Unknown, Asks, asked, argument, listed, firstOf, strategyAsked, sampled, sampledPairs, sampledSends, sampling, sendsOnly, answer}
 use Rattle.machine.specs.Declined.{Action, Connect, Disconnect, Tick, Reading, Log, Line, Call, lineRefusal, refusal}
-use Rattle.machine.specs.Machine.{Effect, connectSends, entries, lineWork, perform, step}
+use Rattle.machine.specs.Machine.{Effect, entries, lineWork, perform, step}
 use Rattle.machine.specs.Others.{isShared, AlikeFor}
 use Rattle.machine.proofs.TestLaws.{eqb-sym, cond-false}
 use Rattle.machine.proofs.PlacesLaws.{each-append, each-weaker, each-of}
 use Rattle.machine.proofs.StateLaws.{pair-sampled, client-after, other-pair}
-use Rattle.machine.proofs.StepLaws.{nameFor, by-cases}
+use Rattle.machine.proofs.StepLaws.{nameFor, connect-each, by-cases}
 use Rattle.machine.proofs.AnsweredLaws.{asksFor}
 use Rattle.machine.proofs.NextLaws.{answer-next, endsConnections}
 use Rattle.machine.proofs.WatchLaws.{own, toldTo, told-none, Aside, aside-told}
@@ -33,7 +33,7 @@ use Rattle.machine.proofs.BesideLaws.{beside-alike, alike-refl, away, w
 
 -- Deliveries that go to client c alone.
 
-abbrev To : ℕ → Delivery → Type 0
+abbrev pub To : ℕ → Delivery → Type 0
 To c d = d .client ≡ c
 
 counted-to : (c : ℕ) (m : Message) (ms : List Message) → Each (To c) (Messages.countedAnswer c m ms)
@@ -44,9 +44,7 @@ counted-to c m ms = each-append (To c) (Messages.allTo c ms) _ (each-of (To c) (
 to-other : (a c : ℕ) → eqb c a ≡ false → (ds : List Delivery) → Each (To c) ds → toldTo a ds ≡ []
 to-other a c e ds h = aside-told a ds (each-weaker (To c) (Aside a) (λ d k. away (eqb (d .client) a) (own (d .message)) (ap (λ c. eqb c a) k ∙ e)) ds h)
 
-module _ (a : ℕ) (ha : a < 8) (s : State) where
-  -- Requests.
-
+module _ (s : State) where
   sampling-to : (c : ℕ) (m : Message) → Each (To c) (sampling (s .sheet) s c m .sent)
   unfolding sampling sampledSends
   sampling-to c m = go (eqb (length (m .args)) 1) (isNone asks)
@@ -67,7 +65,7 @@ module _ (a : ℕ) (ha : a < 8) (s : State) where
       go false false = (refl, each-of (To c) (λ j. to c (Messages.reportOf (s .sheet) s j)) js (λ j. refl))
 
   -- one that ends no connection goes to its sender alone
-  answer-to : (c : ℕ) (r : Request) (m : Message) → (same (nameFor r) (nameFor Halt) || same (nameFor r) (nameFor Restart)) ≡ false → Each (To c) (answer (s .sheet) s c r m .sent)
+  pub answer-to : (c : ℕ) (r : Request) (m : Message) → (same (nameFor r) (nameFor Halt) || same (nameFor r) (nameFor Restart)) ≡ false → Each (To c) (answer (s .sheet) s c r m .sent)
   unfolding answer
   answer-to c ClientList m h = counted-to c m _
   answer-to c Halt m h = absurd (true≢false h)
@@ -80,7 +78,23 @@ module _ (a : ℕ) (ha : a < 8) (s : State) where
   answer-to c VersionList m h = counted-to c m _
   answer-to c Watchdog m h = (refl, tt)
 
-  -- and leaves client a as it was
+  -- a refusal goes to its sender alone
+  pub refusal-to : (n c : ℕ) (line : List ℕ) → Each (To c) (refusal s n (Line c line))
+  unfolding refusal lineRefusal
+  refusal-to n c line = go (ltb n 12 || ltb 23 n) (asked line)
+    where
+      go : (b : Bool) (w : Asked) → Each (To c) (cond b [] (lineRefusal (s .clock) c n w))
+      go true w = tt
+      go false Nothing = tt
+      go false NotMessage = (refl, tt)
+      go false Reply = (refl, tt)
+      go false (Unknown m) = (refl, tt)
+      go false (Asks r m) = (refl, tt)
+
+module _ (a : ℕ) (ha : a < 8) (s : State) where
+  -- Requests.
+
+  -- one that ends no connection leaves client a as it was
   sampled-leaves : (c : ℕ) (js : List ℕ) (st : Strategy) → eqb c a ≡ false → AlikeFor a s (withPairs s (sampledPairs s c js st))
   sampled-leaves c js st e = beside-alike a s (s .level) (s .clients) (sampledPairs s c js st) (record {
     client = refl;
@@ -122,13 +136,13 @@ module _ (a : ℕ) (ha : a < 8) (s : State) where
   line-leaves c e NotMessage h = (alike-refl a s, told-none a)
   line-leaves c e Reply h = (alike-refl a s, told-none a)
   line-leaves c e (Unknown m) h = (alike-refl a s, told-none a)
-  line-leaves c e (Asks r m) h = (answer-leaves c m e r h, to-other a c e (answer (s .sheet) s c r m .sent) (answer-to c r m h))
+  line-leaves c e (Asks r m) h = (answer-leaves c m e r h, to-other a c e (answer (s .sheet) s c r m .sent) (answer-to s c r m h))
 
   perform-leaves : (action : Action) → isShared a action ≡ false → endsConnections action ≡ false → Leaves (perform (s .sheet) s action)
-  unfolding perform connectSends
+  unfolding perform
   perform-leaves (Connect c address) e h = (
     client-leaves c (clientAt address) e,
-    aside-told a _ (away (eqb c a) _ e, (away (eqb c a) _ e, where-aside a (λ k. connected s k && not (eqb k c)) (Messages.clientConnected address) refl)),
+    aside-told a _ (connect-each (Aside a) (s .sheet) s c address (λ _ _. away (eqb c a) _ e) (away (eqb c a) _ e) (away (eqb c a) _ e) (where-aside a (λ k. connected s k && not (eqb k c)) (Messages.clientConnected address) refl)),
   )
   perform-leaves (Disconnect c) e h = (client-leaves c blankClient e, told-none a)
   perform-leaves (Tick n) e h = absurd (true≢false e)
@@ -137,21 +151,13 @@ module _ (a : ℕ) (ha : a < 8) (s : State) where
   perform-leaves (Line c line) e h = line-leaves c e (asked line) h
 
   refused-told : (n : ℕ) (action : Action) → isShared a action ≡ false → toldTo a (refusal s n action) ≡ []
-  unfolding refusal lineRefusal
+  unfolding refusal
   refused-told n (Connect c address) e = told-none a
   refused-told n (Disconnect c) e = told-none a
   refused-told n (Tick m) e = told-none a
   refused-told n (Reading j x) e = told-none a
   refused-told n (Log level logger said) e = told-none a
-  refused-told n (Line c line) e = to-other a c e (refusal s n (Line c line)) (go (ltb n 12) (asked line))
-    where
-      go : (b : Bool) (w : Asked) → Each (To c) (cond b [] (lineRefusal (s .clock) c n w))
-      go true w = tt
-      go false Nothing = tt
-      go false NotMessage = (refl, tt)
-      go false Reply = (refl, tt)
-      go false (Unknown m) = (refl, tt)
-      go false (Asks r m) = (refl, tt)
+  refused-told n (Line c line) e = to-other a c e (refusal s n (Line c line)) (refusal-to s n c line)
 
   -- a call of another that ends no connection
   pub step-leaves : (call : Call) → isShared a (call .action) ≡ false → (isZero (step s call .number) && endsConnections (call .action)) ≡ false

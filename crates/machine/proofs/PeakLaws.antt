@@ -15,6 +15,7 @@ use Rattle.machine.specs.declared.Strategy.the-variants.{None, Auto, Per
 use Rattle.machine.specs.Places.{any, has, Each}
 use Rattle.machine.specs.Sheet.{sensorOf}
 use Rattle.machine.specs.Range.{isNone}
+use Rattle.machine.specs.Opening.{Start}
 use Rattle.machine.specs.Messages.{statusFor}
 use Rattle.machine.specs.Report.{isValid, apart, width}
 use Rattle.machine.specs.Declined.{Call}
@@ -107,68 +108,68 @@ reach-some n (EventRate a b) w e = refl
 reach-some n (DifferentialRate d a b) w e = refl
 
 -- a valid reading has a valid report in the file that it lies within w of
-abbrev Covered : List ℕ → ℕ → ℕ → List (List ℕ) → Sample → Type 0
-Covered bytes j w file x = isValid x ≡ true → (v : ℕ) × ((has v (validReports (sheetOf bytes) j file) ≡ true) × (apart (x .number) v * 1000000 ≤ w))
+abbrev Covered : Start → ℕ → ℕ → List (List ℕ) → Sample → Type 0
+Covered start j w file x = isValid x ≡ true → (v : ℕ) × ((has v (validReports (sheetOf start) j file) ≡ true) × (apart (x .number) v * 1000000 ≤ w))
 
 -- at a moment whose lines are a start of the file
-covered-then : (bytes : List ℕ) (a j w : ℕ) (st : Strategy) → j < sheetOf bytes .count → reach (sensorOf (sheetOf bytes) j) st ≡ some w
-    → (file : List (List ℕ)) (g : List Call) (rest : List (List ℕ)) → connectedAtEnd bytes a g ≡ true → file ≡ linesOf bytes a g ++ rest → strategyOf bytes a j g ≡ st
-    → Covered bytes j w file (readingAt bytes j g)
-covered-then bytes a j w st hs re file g rest on f set valid = (
+covered-then : (start : Start) (a j w : ℕ) (st : Strategy) → j < sheetOf start .count → reach (sensorOf (sheetOf start) j) st ≡ some w
+    → (file : List (List ℕ)) (g : List Call) (rest : List (List ℕ)) → connectedAtEnd start a g ≡ true → file ≡ linesOf start a g ++ rest → strategyOf start a j g ≡ st
+    → Covered start j w file (readingAt start j g)
+covered-then start a j w st hs re file g rest on f set valid = (
   r .value,
   (
-    subst (λ ls. has (r .value) (validReports (sheetOf bytes) j ls) ≡ true) (sym f)
-        (rw reports-append (has-before (r .value) (validReports (sheetOf bytes) j (linesOf bytes a g)) _ listed)),
+    subst (λ ls. has (r .value) (validReports (sheetOf start) j ls) ≡ true) (sym f)
+        (rw reports-append (has-before (r .value) (validReports (sheetOf start) j (linesOf start a g)) _ listed)),
     near .1 valid,
   ),
 )
   where
-    t : TellsAt bytes a g j
-    t = tells bytes a g on j hs
+    t : TellsAt start a g j
+    t = tells start a g on j hs
 
     n : Sensor
-    n = sensorOf (sheetOf bytes) j
+    n = sensorOf (sheetOf start) j
 
-    told : (r : Told) × (fileView (sheetOf bytes) j (linesOf bytes a g) .last ≡ some r)
+    told : (r : Told) × (fileView (sheetOf start) j (linesOf start a g) .last ≡ some r)
     told = t .reading-told .was-reported (ap isNone (t .strategy-told ∙ set) ∙ reach-some n st w re)
 
     r : Told
     r = told .0
 
-    near : (statusFor n (readingAt bytes j g) ≡ r .status) × (isValid (readingAt bytes j g) ≡ true → apart (readingAt bytes j g .number) (r .value) * 1000000 ≤ w)
-    near = reached n (clockOf bytes g) (readingAt bytes j g) r st w re
-        (subst (λ st. Known n (clockOf bytes g) (readingAt bytes j g) st r) (t .strategy-told ∙ set) (t .reading-told .tells r (told .1) (clockOf bytes g) (omega arith)))
+    near : (statusFor n (readingAt start j g) ≡ r .status) × (isValid (readingAt start j g) ≡ true → apart (readingAt start j g .number) (r .value) * 1000000 ≤ w)
+    near = reached n (clockOf start g) (readingAt start j g) r st w re
+        (subst (λ st. Known n (clockOf start g) (readingAt start j g) st r) (t .strategy-told ∙ set) (t .reading-told .tells r (told .1) (clockOf start g) (omega arith)))
 
-    listed : has (r .value) (validReports (sheetOf bytes) j (linesOf bytes a g)) ≡ true
-    listed = last-in (sheetOf bytes) j (has (r .value) (validReports (sheetOf bytes) j (linesOf bytes a g)) ≡ true) (linesOf bytes a g) _ r
-        (ap validStatus (sym (near .0)) ∙ (sym (valid-is n (readingAt bytes j g)) ∙ valid)) (told .1) (λ q. absurd (none-some r q)) (λ q. q)
+    listed : has (r .value) (validReports (sheetOf start) j (linesOf start a g)) ≡ true
+    listed = last-in (sheetOf start) j (has (r .value) (validReports (sheetOf start) j (linesOf start a g)) ≡ true) (linesOf start a g) _ r
+        (ap validStatus (sym (near .0)) ∙ (sym (valid-is n (readingAt start j g)) ∙ valid)) (told .1) (λ q. absurd (none-some r q)) (λ q. q)
 
-module _ (bytes : List ℕ) (a j w : ℕ) (st : Strategy) (later h : List Call) (u : Under bytes a j st later h) (re : reach (sensorOf (sheetOf bytes) j) st ≡ some w) where
+module _ (start : Start) (a j w : ℕ) (st : Strategy) (later h : List Call) (u : Under start a j st later h) (re : reach (sensorOf (sheetOf start) j) st ≡ some w) where
   abbrev file : List (List ℕ)
-  file = linesOf bytes a (later ++ h)
+  file = linesOf start a (later ++ h)
 
-  covered : Each (λ g. strategyOf bytes a j g ≡ st → Covered bytes j w file (readingAt bytes j g)) (moments later h)
-  covered = each-moment bytes a h (λ g. strategyOf bytes a j g ≡ st → Covered bytes j w file (readingAt bytes j g)) file
-      (λ g more rest on m f set. covered-then bytes a j w st (u .on-sheet) re file g rest on f set) later [] (u .earlier .same-connection) (u .earlier .at-end) (sym (append-nil file))
+  covered : Each (λ g. strategyOf start a j g ≡ st → Covered start j w file (readingAt start j g)) (moments later h)
+  covered = each-moment start a h (λ g. strategyOf start a j g ≡ st → Covered start j w file (readingAt start j g)) file
+      (λ g more rest on m f set. covered-then start a j w st (u .on-sheet) re file g rest on f set) later [] (u .earlier .same-connection) (u .earlier .at-end) (sym (append-nil file))
 
-  all-covered : Each (Covered bytes j w file) (map (readingAt bytes j) (moments later h))
-  all-covered = each-map (Covered bytes j w file) (readingAt bytes j) (moments later h) (both (moments later h) covered (u .set-since))
+  all-covered : Each (Covered start j w file) (map (readingAt start j) (moments later h))
+  all-covered = each-map (Covered start j w file) (readingAt start j) (moments later h) (both (moments later h) covered (u .set-since))
     where
-      both : (gs : List (List Call)) → Each (λ g. strategyOf bytes a j g ≡ st → Covered bytes j w file (readingAt bytes j g)) gs
-          → Each (λ g. strategyOf bytes a j g ≡ st) gs → Each (λ g. Covered bytes j w file (readingAt bytes j g)) gs
+      both : (gs : List (List Call)) → Each (λ g. strategyOf start a j g ≡ st → Covered start j w file (readingAt start j g)) gs
+          → Each (λ g. strategyOf start a j g ≡ st) gs → Each (λ g. Covered start j w file (readingAt start j g)) gs
       both [] p q = tt
       both (g ∷ gs) p q = (p .0 (q .0), both gs (p .1) (q .1))
 
-  highest-covered : (xs : List Sample) → Each (Covered bytes j w file) xs → highest (validNumbers xs) * 1000000 ≤ highest (validReports (sheetOf bytes) j file) * 1000000 + w
+  highest-covered : (xs : List Sample) → Each (Covered start j w file) xs → highest (validNumbers xs) * 1000000 ≤ highest (validReports (sheetOf start) j file) * 1000000 + w
   unfolding highest
   highest-covered [] p = omega arith
   highest-covered (x ∷ xs) p = go (isValid x) refl (highest-covered xs (p .1))
     where
       top : ℕ
-      top = highest (validReports (sheetOf bytes) j file) * 1000000 + w
+      top = highest (validReports (sheetOf start) j file) * 1000000 + w
 
       one : isValid x ≡ true → x .number * 1000000 ≤ top
-      one e = let c = p .0 e in omega (arith, c .1 .1, highest-has (c .0) (validReports (sheetOf bytes) j file) (c .1 .0))
+      one e = let c = p .0 e in omega (arith, c .1 .1, highest-has (c .0) (validReports (sheetOf start) j file) (c .1 .0))
 
       go : (b : Bool) → isValid x ≡ b → highest (validNumbers xs) * 1000000 ≤ top → highest (cond b (x .number ∷ validNumbers xs) (validNumbers xs)) * 1000000 ≤ top
       go false e ih = ih
@@ -193,26 +194,26 @@ module _ (sheet : Sheet) (j : ℕ) (st : Strategy) where
   kept-in [] v e k = e
   kept-in (l ∷ ls) v e k = kept-in ls _ (kept-by (lineNews sheet l) v e (k .0)) (k .1)
 
-set-at : (bytes : List ℕ) (a j : ℕ) (st : Strategy) → j < sheetOf bytes .count → (h g : List Call) (more rest behind : List (List ℕ)) → connectedAtEnd bytes a g ≡ true
-    → linesOf bytes a g ≡ linesOf bytes a h ++ more → linesOf bytes a h ++ behind ≡ linesOf bytes a g ++ rest
-    → fileView (sheetOf bytes) j (linesOf bytes a h) .strategy ≡ st → Each (λ l. KeepsStrategy j st (lineNews (sheetOf bytes) l)) behind → strategyOf bytes a j g ≡ st
-set-at bytes a j st hs h g more rest behind on m f set k =
-    sym (tells bytes a g on j hs .strategy-told)
-    ∙ (ap (λ ls. fileView (sheetOf bytes) j ls .strategy) m ∙ (ap (λ (v : View). v .strategy) (view-in-append (sheetOf bytes) j (linesOf bytes a h) more noView)
-    ∙ kept-in (sheetOf bytes) j st more _ set (each-front _ more rest (subst (Each (λ l. KeepsStrategy j st (lineNews (sheetOf bytes) l))) split k))))
+set-at : (start : Start) (a j : ℕ) (st : Strategy) → j < sheetOf start .count → (h g : List Call) (more rest behind : List (List ℕ)) → connectedAtEnd start a g ≡ true
+    → linesOf start a g ≡ linesOf start a h ++ more → linesOf start a h ++ behind ≡ linesOf start a g ++ rest
+    → fileView (sheetOf start) j (linesOf start a h) .strategy ≡ st → Each (λ l. KeepsStrategy j st (lineNews (sheetOf start) l)) behind → strategyOf start a j g ≡ st
+set-at start a j st hs h g more rest behind on m f set k =
+    sym (tells start a g on j hs .strategy-told)
+    ∙ (ap (λ ls. fileView (sheetOf start) j ls .strategy) m ∙ (ap (λ (v : View). v .strategy) (view-in-append (sheetOf start) j (linesOf start a h) more noView)
+    ∙ kept-in (sheetOf start) j st more _ set (each-front _ more rest (subst (Each (λ l. KeepsStrategy j st (lineNews (sheetOf start) l))) split k))))
   where
     split : behind ≡ more ++ rest
-    split = append-cancel-left (linesOf bytes a h) behind (more ++ rest) (f ∙ (ap (λ l. l ++ rest) m ∙ append-assoc (linesOf bytes a h) more rest))
+    split = append-cancel-left (linesOf start a h) behind (more ++ rest) (f ∙ (ap (λ l. l ++ rest) m ∙ append-assoc (linesOf start a h) more rest))
 
 -- peaks
 pub peak-bounded : PeakBounded
 peak-bounded = record {
-  within = λ bytes a j w st later h u re. all-covered bytes a j w st later h u re;
-  peak = λ bytes a j w st later h u re. highest-covered bytes a j w st later h u re (map (readingAt bytes j) (moments later h)) (all-covered bytes a j w st later h u re);
-  as-shown = λ bytes a j st later h behind e hs f set k. record {
+  within = λ start a j w st later h u re. all-covered start a j w st later h u re;
+  peak = λ start a j w st later h u re. highest-covered start a j w st later h u re (map (readingAt start j) (moments later h)) (all-covered start a j w st later h u re);
+  as-shown = λ start a j st later h behind e hs f set k. record {
     earlier = e;
     on-sheet = hs;
-    set-since = each-moment bytes a h (λ g. strategyOf bytes a j g ≡ st) (linesOf bytes a h ++ behind)
-        (λ g more rest on m f. set-at bytes a j st hs h g more rest behind on m f set k) later [] (e .same-connection) (e .at-end) (sym f ∙ sym (append-nil (linesOf bytes a (later ++ h))));
+    set-since = each-moment start a h (λ g. strategyOf start a j g ≡ st) (linesOf start a h ++ behind)
+        (λ g more rest on m f. set-at start a j st hs h g more rest behind on m f set k) later [] (e .same-connection) (e .at-end) (sym f ∙ sym (append-nil (linesOf start a (later ++ h))));
   };
 }

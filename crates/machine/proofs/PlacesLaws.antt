@@ -8,8 +8,8 @@ use lib.Dec.{eqb, ltb}
 use lib.ListN.{length, getD, replicate, length-append, List·getD-append}
 use lib.Seq.{getD-append-seam}
 use borrow.Author.Tests.{ltb-true, ltb-false, eqb-true}
-use Rattle.machine.specs.Places.{tabulate, gather, oneIf, any, only, allBelow, firstBelow, has, Each}
-use Rattle.machine.proofs.TestLaws.{and-true, and-in, or-false, or-true, or-in, test-same, eqb-refl}
+use Rattle.machine.specs.Places.{tabulate, gather, oneIf, any, only, fromFirst, allBelow, firstBelow, has, Each}
+use Rattle.machine.proofs.TestLaws.{cond-either, and-true, and-in, or-false, or-true, or-in, test-same, eqb-refl}
 use Rattle.output.specs.Text.{all}
 
 module _ {A : Type 0} (f : ℕ → A) where
@@ -44,6 +44,11 @@ module _ {A : Type 0} where
   each-append P [] ys h k = k
   each-append P (x ∷ xs) ys h k = (h .0, each-append P xs ys (h .1) k)
 
+  pub each-from : (P : A → Type 0) (f : A → Bool) (xs : List A) → Each P xs → Each P (fromFirst f xs)
+  unfolding fromFirst
+  each-from P f [] h = tt
+  each-from P f (x ∷ xs) h = cond-either (Each P) (f x) (x ∷ xs) (fromFirst f xs) h (each-from P f xs (h .1))
+
   pub each-front : (P : A → Type 0) (xs ys : List A) → Each P (xs ++ ys) → Each P xs
   each-front P [] ys h = tt
   each-front P (x ∷ xs) ys h = (h .0, each-front P xs ys (h .1))
@@ -64,6 +69,24 @@ module _ {A : Type 0} where
   pub each-weaker : (P Q : A → Type 0) → ((x : A) → P x → Q x) → (xs : List A) → Each P xs → Each Q xs
   each-weaker P Q f [] h = tt
   each-weaker P Q f (x ∷ xs) h = (f x (h .0), each-weaker P Q f xs (h .1))
+
+  pub each-only : (P : A → Type 0) (f : A → Bool) (xs : List A) → Each P xs → Each P (only f xs)
+  unfolding only
+  each-only P f [] h = tt
+  each-only P f (x ∷ xs) h = cond-either (Each P) (f x) (x ∷ only f xs) (only f xs) (h .0, each-only P f xs (h .1)) (each-only P f xs (h .1))
+
+  pub only-length : (f : A → Bool) (xs : List A) → length (only f xs) ≤ length xs
+  unfolding only
+  only-length f [] = omega arith
+  only-length f (x ∷ xs) = let q = only-length f xs in
+      cond-either (λ (l : List A). length l ≤ suc (length xs)) (f x) (x ∷ only f xs) (only f xs) (omega (arith, q)) (omega (arith, q))
+
+  -- what stands before it, and the rest
+  pub from-rest : (f : A → Bool) (xs : List A) → (front : List A) × (xs ≡ front ++ fromFirst f xs)
+  unfolding fromFirst
+  from-rest f [] = ([], refl)
+  from-rest f (x ∷ xs) = cond-either (λ (l : List A). (front : List A) × ((x ∷ xs) ≡ front ++ l)) (f x) (x ∷ xs) (fromFirst f xs) ([], refl)
+      (let q = from-rest f xs in (x ∷ q .0, ap (λ l. x ∷ l) (q .1)))
 
   pub only-append : (f : A → Bool) (xs ys : List A) → only f (xs ++ ys) ≡ only f xs ++ only f ys
   unfolding only

@@ -11,8 +11,8 @@ use Rattle.machine.specs.declared.Sheet.{Sheet}
 use Rattle.machine.specs.declared.State.{State}
 use Rattle.machine.specs.declared.Request.{Request}
 use Rattle.machine.specs.declared.Request.the-variants.{ClientList, Halt, Help, LogLevel, Restart, SensorList, SensorSampling, SensorValue, VersionList, Watchdog}
-use Rattle.machine.specs.Places.{Each}
-use Rattle.machine.specs.Sheet.{sensorOf}
+use Rattle.machine.specs.Places.{Each, oneIf}
+use Rattle.machine.specs.Sheet.{single, sensorOf}
 use Rattle.machine.specs.State.{connected, startLevel}
 use Rattle.machine.specs.Messages
 use Rattle.machine.specs.Requests.{endConnections, Asked, Nothing, NotMessage, Reply, Unknown, Asks, asked, askedPlaces, helpNames, addresses, levelAsked, answer}
@@ -21,7 +21,7 @@ use Rattle.machine.specs.Machine.{connectSends, entries}
 use Rattle.machine.specs.Reader.{Other, samplingNews, news}
 use Rattle.machine.proofs.TestLaws.{cond-false, cond-either}
 use Rattle.machine.proofs.PlacesLaws.{each-append, each-gather, each-one, each-map, each-of}
-use Rattle.machine.proofs.StepLaws.{nameFor}
+use Rattle.machine.proofs.StepLaws.{nameFor, connect-each}
 
 -- a delivery that tells nothing
 abbrev pub Silent : Sheet → Delivery → Type 0
@@ -36,8 +36,9 @@ unfolding Messages.toWhere
 where-quiet sheet is m h = each-gather (Silent sheet) _ 8 (λ c l. each-one (Silent sheet) (is c) (to c m) (λ t. h))
 
 pub connect-sends-quiet : (sheet : Sheet) (s : State) (c : ℕ) (address : List ℕ) → Quiet sheet (connectSends sheet s c address)
-unfolding connectSends news
-connect-sends-quiet sheet s c address = (refl, (refl, where-quiet sheet (λ k. connected s k && not (eqb k c)) (Messages.clientConnected address) refl))
+unfolding news
+connect-sends-quiet sheet s c address = connect-each (Silent sheet) sheet s c address (λ _ _. refl) refl refl
+    (where-quiet sheet (λ k. connected s k && not (eqb k c)) (Messages.clientConnected address) refl)
 
 pub entries-quiet : (sheet : Sheet) (s : State) (level : ℕ) (logger said : List ℕ) → Quiet sheet (entries s level logger said)
 unfolding entries news
@@ -71,13 +72,13 @@ module _ (sheet : Sheet) (s : State) (c : ℕ) (m : Message) (other : same (m .n
   unfolding answer news Messages.sensorInform Messages.valueInform
   by-request ClientList h = informs-quiet (Messages.clientInform (m .id)) (addresses s) (λ x. refl)
   by-request Halt h = ending-quiet (text "Device halting.") true (s .level)
-  by-request Help h = informs-quiet (Messages.helpInform (m .id)) (helpNames m) (λ x. refl)
+  by-request Help h = informs-quiet (Messages.helpInform (m .id)) (helpNames (sheet .profile) m) (λ x. refl)
   by-request LogLevel h = (reply-quiet sheet m (text "ok" ∷ Messages.levelText (levelAsked s m) ∷ []) other, tt)
   by-request Restart h = ending-quiet (text "Device restarting.") false startLevel
   by-request SensorList h = informs-quiet (λ j. Messages.sensorInform (m .id) (sensorOf sheet j)) (askedPlaces sheet m) (λ x. refl)
   by-request SensorSampling h = absurd (true≢false h)
   by-request SensorValue h = informs-quiet (Messages.valueInform (m .id) s sheet) (askedPlaces sheet m) (λ x. refl)
-  by-request VersionList h = informs-quiet (Messages.versionInform (m .id)) (Messages.protocolArgs ∷ Messages.deviceArgs sheet ∷ []) (λ x. refl)
+  by-request VersionList h = informs-quiet (Messages.versionInform (m .id)) (Messages.protocolArgs (sheet .profile) ∷ Messages.deviceArgs sheet ∷ []) (λ x. refl)
   by-request Watchdog h = (reply-quiet sheet m (text "ok" ∷ []) other, tt)
 
 pub answer-quiet : (sheet : Sheet) (s : State) (c : ℕ) (r : Request) (m : Message) → m .name ≡ nameFor r → same (nameFor r) (nameFor SensorSampling) ≡ false
@@ -113,7 +114,7 @@ refusal-quiet sheet s n (Disconnect c) = tt
 refusal-quiet sheet s n (Tick t) = tt
 refusal-quiet sheet s n (Reading j r) = tt
 refusal-quiet sheet s n (Log level logger said) = tt
-refusal-quiet sheet s n (Line c line) = line-quiet (ltb n 12)
+refusal-quiet sheet s n (Line c line) = line-quiet (ltb n 12 || ltb 23 n)
   where
     line-quiet : (b : Bool) → Quiet sheet (cond b [] (lineRefusal (s .clock) c n (asked line)))
     line-quiet true = tt

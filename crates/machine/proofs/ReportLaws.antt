@@ -11,6 +11,7 @@ use Rattle.machine.specs.declared.State.{State}
 use Rattle.machine.specs.Places.{Each}
 use Rattle.machine.specs.Sheet.{sensorOf}
 use Rattle.machine.specs.State.{present}
+use Rattle.machine.specs.Opening.{Start}
 use Rattle.machine.specs.Declined.{Call}
 use Rattle.machine.specs.Machine.{step}
 use Rattle.machine.specs.Reader.{Told, News, Other, Impossible, Reported, SetTo, news, told, toldOf}
@@ -22,7 +23,8 @@ use Rattle.machine.proofs.QuietLaws.{Silent}
 use Rattle.machine.proofs.ShapeLaws.{Held, ReportsOf, by-shape}
 use Rattle.machine.proofs.Sent.{sent-well-formed}
 use Rattle.machine.proofs.ListLaws.{sheet-is, clock-is, stored-by, sent-packets}
-use Rattle.machine.proofs.ArchiveLaws.{lines-packed, each-to}
+use Rattle.machine.proofs.HeardLaws.{each-to}
+use Rattle.machine.proofs.ArchiveLaws.{lines-packed}
 use Rattle.machine.proofs.TellsLaws.{lines-read, sheet-rules}
 
 -- news that, if they are a report, are one of the state's
@@ -63,21 +65,21 @@ held-report sheet s w k r e h =
     same = sym (ap sensorTold (h .1 .1)) ∙ ap sensorTold e
 
 -- over a list of calls
-module _ (bytes : List ℕ) where
-  held-then : (g : List Call) (k : ℕ) (r : Told) → k < sheetOf bytes .count → r ≡ toldOf (sensorOf (sheetOf bytes) k) (after bytes g .clock) (present (after bytes g) k)
-      → r ≡ toldOf (sensorOf (sheetOf bytes) k) (clockOf bytes g) (readingAt bytes k g)
-  held-then g k r hs e = e ∙ ap₂ (toldOf (sensorOf (sheetOf bytes) k)) (clock-is bytes g) (stored-by bytes k (omega (arith, sheet-rules bytes .count-most)) hs g .sample-is)
+module _ (start : Start) where
+  held-then : (g : List Call) (k : ℕ) (r : Told) → k < sheetOf start .count → r ≡ toldOf (sensorOf (sheetOf start) k) (after start g .clock) (present (after start g) k)
+      → r ≡ toldOf (sensorOf (sheetOf start) k) (clockOf start g) (readingAt start k g)
+  held-then g k r hs e = e ∙ ap₂ (toldOf (sensorOf (sheetOf start) k)) (clock-is start g) (stored-by start k (omega (arith, sheet-rules start .count-most)) hs g .sample-is)
 
-  lines-true : (a : ℕ) (h : List Call) (call : Call) → Each (λ l. True (sheetOf bytes) (after bytes (call ∷ h)) (lineNews (sheetOf bytes) l)) (linesTo a (packetsOf bytes h call))
+  lines-true : (a : ℕ) (h : List Call) (call : Call) → Each (λ l. True (sheetOf start) (after start (call ∷ h)) (lineNews (sheetOf start) l)) (linesTo a (packetsOf start h call))
   unfolding after
-  lines-true a h call = let ds = step (after bytes h) call .sent in
-      subst (λ sheet. Each (λ l. True sheet (step (after bytes h) call .next) (lineNews sheet l)) (linesTo a (packetsOf bytes h call))) (sheet-is bytes h)
-      (subst (Each (λ l. True (after bytes h .sheet) (step (after bytes h) call .next) (lineNews (after bytes h .sheet) l))) (sym (ap (linesTo a) (sent-packets bytes a h call) ∙ lines-packed a ds))
-      (lines-read (λ p. True (after bytes h .sheet) (step (after bytes h) call .next) (newsIn (after bytes h .sheet) p)) (sentTo a ds) (each-to WellFormed a ds (sent-well-formed (after bytes h) call))
-      (each-to (λ m. True (after bytes h .sheet) (step (after bytes h) call .next) (news (after bytes h .sheet) m)) a ds (sent-true (after bytes h) call))))
+  lines-true a h call = let ds = step (after start h) call .sent in
+      subst (λ sheet. Each (λ l. True sheet (step (after start h) call .next) (lineNews sheet l)) (linesTo a (packetsOf start h call))) (sheet-is start h)
+      (subst (Each (λ l. True (after start h .sheet) (step (after start h) call .next) (lineNews (after start h .sheet) l))) (sym (ap (linesTo a) (sent-packets start a h call) ∙ lines-packed a ds))
+      (lines-read (λ p. True (after start h .sheet) (step (after start h) call .next) (newsIn (after start h .sheet) p)) (sentTo a ds) (each-to WellFormed a ds (sent-well-formed (after start h) call))
+      (each-to (λ m. True (after start h .sheet) (step (after start h) call .next) (news (after start h .sheet) m)) a ds (sent-true (after start h) call))))
 
 -- reports
 pub reports-true : ReportsTrue
-reports-true bytes a h call = each-weaker (λ l. True (sheetOf bytes) (after bytes (call ∷ h)) (lineNews (sheetOf bytes) l)) _
-    (λ l t k r e. let q = held-report (sheetOf bytes) (after bytes (call ∷ h)) (lineNews (sheetOf bytes) l) k r e (t (ap isReport e)) in held-then bytes (call ∷ h) k r (q .0) (q .1))
-    (linesTo a (packetsOf bytes h call)) (lines-true bytes a h call)
+reports-true start a h call = each-weaker (λ l. True (sheetOf start) (after start (call ∷ h)) (lineNews (sheetOf start) l)) _
+    (λ l t k r e. let q = held-report (sheetOf start) (after start (call ∷ h)) (lineNews (sheetOf start) l) k r e (t (ap isReport e)) in held-then start (call ∷ h) k r (q .0) (q .1))
+    (linesTo a (packetsOf start h call)) (lines-true start a h call)

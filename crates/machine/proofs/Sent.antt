@@ -2,42 +2,43 @@
 use Prim.Native.Nat.{ℕ, suc, _/_, _%_, _≤_, _<_}
 use native.Mathlib.Omega.{arith}
 use mathlib.Core.Path.{_≡_, refl}
-use mathlib.Core.Bool.{Bool, true, false, cond, not, _&&_}
-use mathlib.Core.List.{List, [], _∷_, map}
+use mathlib.Core.Bool.{Bool, true, false, cond, not, _&&_, _||_}
+use mathlib.Core.List.{List, [], _∷_, _++_, map}
 use lib.Dec.{eqb, leb, ltb}
-use lib.ListN.{length}
+use lib.ListN.{length, length-append}
 use borrow.Author.Tests.{leb-true, ltb-false}
-use Rattle.output.specs.Text.{all}
+use Rattle.output.specs.Text.{text, all}
 use Rattle.output.specs.Read.{inTime}
 use Rattle.message.specs.Message.{Message, write}
-use Rattle.message.specs.Delivery.{Delivery, packet, Short}
+use Rattle.message.specs.Delivery.{Delivery, to, packet, Short}
 use Rattle.line.specs.Line.{message, parse, WellFormed}
 use Rattle.line.proofs.ParsedHead.{parsed-head}
 use Rattle.line.proofs.ReadBack.{read-back}
 use Rattle.machine.specs.declared.Stored.{Stored}
+use Rattle.machine.specs.declared.Sheet.{Sheet}
 use Rattle.machine.specs.declared.State.{State}
 use Rattle.machine.specs.declared.Cause.{Cause}
 use Rattle.machine.specs.declared.Cause.the-variants.{Tick as Ticked, Reading as Read}
-use Rattle.machine.specs.Places.{gather, Each}
-use Rattle.machine.specs.Sheet.{sensorOf, graphic, nameByte, textFits}
+use Rattle.machine.specs.Places.{gather, oneIf, Each}
+use Rattle.machine.specs.Sheet.{single, lastClient, sensorOf, graphic, nameByte, textFits}
 use Rattle.machine.specs.State.{present, connected, pairAt, withClock, withReading}
 use Rattle.machine.specs.Range.{sampleOk, inRange}
-use Rattle.machine.specs.Messages.{clientConnected, logEntry, toAll}
+use Rattle.machine.specs.Messages.{clientConnected, displaced, logEntry, toAll}
 use Rattle.machine.specs.Report.{dueAt, pairSends, visit, Work}
 use Rattle.machine.specs.Requests.{Asked, Nothing, NotMessage, Reply, Unknown, Asks, asked}
-use Rattle.machine.specs.Declined.{Action, Connect, Disconnect, Tick, Reading, Log, Line, Call, clientDeclined, addressFits, tickFits, entryFits, entryByte, lineDeclined, actionDeclined, declined, lineRefusal, refusal}
-use Rattle.machine.specs.Machine.{Effect, storedGiven, connectSends, entries, perform, step}
+use Rattle.machine.specs.Declined.{Action, Connect, Disconnect, Tick, Reading, Log, Line, Call, aboveLast, clientDeclined, connectRefused, addressFits, tickFits, entryFits, entryByte, lineDeclined, actionDeclined, declined, lineRefusal, refusal}
+use Rattle.machine.specs.Machine.{Effect, storedGiven, greeting, connectSends, entries, perform, step}
 use Rattle.machine.specs.Claims.{Fits, SentReadsBack, SentToClients}
-use Rattle.machine.proofs.TestLaws.{and-true, fitted}
+use Rattle.machine.proofs.TestLaws.{and-true, or-false, cond-either, fitted}
 use Rattle.machine.proofs.PlacesLaws.{each-gather, each-one, each-weaker, gather-length}
 use Rattle.machine.proofs.StateLaws.{due-below}
 use Rattle.machine.proofs.SheetLaws.{Sensors}
 use Rattle.machine.proofs.RangeLaws.{InRange, range-out, sensors-of}
-use Rattle.machine.proofs.StepLaws.{by-cases, accepted, declined-in-range, client-fits, by-superseding, asks-is, unknown-is, by-asking}
+use Rattle.machine.proofs.StepLaws.{by-cases, accepted, declined-in-range, client-fits, last-below, connect-each, by-superseding, asks-is, unknown-is, by-asking}
 use Rattle.machine.proofs.SampleRange.{given-fits, Reportable, reportable-tick, reportable-reading}
 use Rattle.machine.proofs.LineLengths.{Sound}
 use Rattle.machine.proofs.DeliveryLengths.{Served, served, length-line, Sendable, sendable, nothing-sent, one-sent, one-length, where-length, served-where}
-use Rattle.machine.proofs.SentSizes.{sound-protocol, sound-device, sound-newcomer, sound-entry, sound-report, sound-refusal, sound-refusal-entry}
+use Rattle.machine.proofs.SentSizes.{sound-protocol, sound-device, sound-newcomer, sound-disconnect, sound-entry, sound-report, sound-refusal, sound-refusal-entry}
 use Rattle.machine.proofs.SentAnswers.{titles-short, answer-sent}
 
 -- Reports of a visit.
@@ -73,21 +74,24 @@ entry-most level logger said h =
     let b = and-true (textFits 1 32 nameByte logger) (textFits 0 256 entryByte said) (a .1) in
     (text-most 1 32 nameByte logger (b .0), text-most 0 256 entryByte said (b .1))
 
+connect-length : (sheet : Sheet) (s : State) (c : ℕ) (address : List ℕ) → length (connectSends sheet s c address) ≤ 10
+unfolding connectSends
+connect-length sheet s c address = cond-either (λ (ds : List Delivery). length ds ≤ 10) (single (sheet .profile)) _ _
+    (omega (arith, length-append (oneIf (connected s c) (to c (displaced address))) (greeting sheet c), one-length (connected s c) (to c (displaced address))))
+    (omega (arith, where-length (λ k. connected s k && not (eqb k c)) (clientConnected address)))
+
 module _ (s : State) (g : InRange s) where
   connect-sent : (c : ℕ) (address : List ℕ) → actionDeclined (s .sheet) s (Connect c address) ≡ 0 → Sendable (connectSends (s .sheet) s c address)
-  unfolding actionDeclined connectSends
+  unfolding actionDeclined
   connect-sent c address h =
-      let a = client-fits (connected s c) c _ h in
-      let b = fitted (addressFits address) 7 0 (omega arith) (a .1 .1) in
+      let a = client-fits (s .sheet .profile) (connectRefused (s .sheet .profile) (connected s c)) c _ h in
+      let most = address-most address (fitted (addressFits address) 7 0 (omega arith) (a .1 .1) .0) in
       let t = titles-short s g in
-      let others : ℕ → Bool = λ k. connected s k && not (eqb k c) in
-      sendable 10 1300 _ (omega arith) (omega arith) (omega (arith, where-length others (clientConnected address))) (
-        served (a .0) sound-protocol,
-        (
-          served (a .0) (sound-device (s .sheet) (t .0) (t .1)),
-          served-where 1300 others (clientConnected address) (sound-newcomer address (address-most address (b .0))),
-        ),
-      )
+      sendable 10 1300 (connectSends (s .sheet) s c address) (omega arith) (omega arith) (connect-length (s .sheet) s c address)
+      (connect-each (Served 1300) (s .sheet) s c address
+      (λ _ _. served (a .0) (sound-disconnect (text "New client connected from " ++ address) (omega (arith, length-append (text "New client connected from ") address, most))))
+      (served (a .0) (sound-protocol (s .sheet .profile))) (served (a .0) (sound-device (s .sheet) (t .0) (t .1)))
+      (served-where 1300 (λ k. connected s k && not (eqb k c)) (clientConnected address) (sound-newcomer address most)))
 
   tick-sent : (t : ℕ) → actionDeclined (s .sheet) s (Tick t) ≡ 0 → Sendable (visit (s .sheet) (withClock s t) Ticked .sent)
   unfolding actionDeclined tickFits
@@ -132,18 +136,23 @@ beyond true k m n h e = absurd (omega arith)
 beyond false k m n h e = e
 
 -- from row 12 on, the action's own rows decline
-action-declines : (s : State) (call : Call) (n : ℕ) → declined (s .sheet) s call ≡ n → 12 ≤ n → actionDeclined (s .sheet) s (call .action) ≡ n
+pub action-declines : (s : State) (call : Call) (n : ℕ) → declined (s .sheet) s call ≡ n → 12 ≤ n → actionDeclined (s .sheet) s (call .action) ≡ n
 unfolding declined
 action-declines s call n e h =
     beyond (s .halted) 3 _ n (omega arith) (beyond (ltb (length (call .lent)) 65536) 2 _ n (omega arith) (beyond (not (inRange s)) 1 _ n (omega arith) e))
 
-client-below : (refused : Bool) (c rest n : ℕ) → clientDeclined refused c rest ≡ n → 12 ≤ n → c < 8
+-- and then the client is one that the profile has
+pub client-within : (profile : ℕ) (refused : Bool) (c rest n : ℕ) → clientDeclined profile refused c rest ≡ n → 12 ≤ n → n ≤ 23 → c ≤ lastClient profile
 unfolding clientDeclined
-client-below refused c rest n e h = go (ltb 7 c) refl e
+client-within profile refused c rest n e h m = go (ltb (lastClient profile) c) refl e
   where
-    go : (b : Bool) → ltb 7 c ≡ b → cond b 5 (cond refused 6 rest) ≡ n → c < 8
-    go true l k = absurd (omega arith)
-    go false l k = omega (arith, ltb-false 7 c l)
+    neither : (b : Bool) → cond b 32 5 ≡ n → ⊥
+    neither true q = omega arith
+    neither false q = omega arith
+
+    go : (b : Bool) → ltb (lastClient profile) c ≡ b → cond b (aboveLast profile) (cond refused 6 rest) ≡ n → c ≤ lastClient profile
+    go true l k = absurd (neither (single profile) k)
+    go false l k = ltb-false (lastClient profile) c l
 
 line-refused : (s : State) → InRange s → (c n : ℕ) (line : List ℕ) → c < 8 → Sendable (lineRefusal (s .clock) c n (asked line))
 unfolding lineRefusal
@@ -163,13 +172,15 @@ refusal-sent s n (Disconnect c) h = nothing-sent
 refusal-sent s n (Tick t) h = nothing-sent
 refusal-sent s n (Reading j r) h = nothing-sent
 refusal-sent s n (Log level logger said) h = nothing-sent
-refusal-sent s n (Line c line) h = go (ltb n 12) refl
+refusal-sent s n (Line c line) h = go (ltb n 12 || ltb 23 n) refl
   where
-    go : (b : Bool) → ltb n 12 ≡ b → Sendable (cond b [] (lineRefusal (s .clock) c n (asked line)))
+    go : (b : Bool) → (ltb n 12 || ltb 23 n) ≡ b → Sendable (cond b [] (lineRefusal (s .clock) c n (asked line)))
     go true e = nothing-sent
     go false e =
-        let k = ltb-false n 12 e in
-        line-refused s (range-out s (h k .0)) c n line (client-below (not (connected s c)) c (lineDeclined (s .sheet) (asked line)) n (h k .1) k)
+        let q = or-false (ltb n 12) (ltb 23 n) e in
+        let k = ltb-false n 12 (q .0) in
+        let l = client-within (s .sheet .profile) (not (connected s c)) c (lineDeclined (s .sheet) (asked line)) n (h k .1) k (ltb-false 23 n (q .1)) in
+        line-refused s (range-out s (h k .0)) c n line (omega (arith, l, last-below (s .sheet .profile)))
 
 -- Every call.
 

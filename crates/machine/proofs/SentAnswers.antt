@@ -4,10 +4,10 @@ use native.Mathlib.Nat.{le-trans}
 use native.Mathlib.Omega.{arith}
 use mathlib.Core.Path.{_≡_, refl, sym, _∙_, subst}
 use mathlib.Core.Option.{some}
-use mathlib.Core.Bool.{Bool, true, false, cond, _&&_}
+use mathlib.Core.Bool.{Bool, true, false, cond, not, _&&_}
 use mathlib.Core.List.{List, [], _∷_, map}
 use lib.Dec.{eqb, ltb}
-use lib.ListN.{length, getD, length-map}
+use lib.ListN.{length, getD, drop, length-map}
 use borrow.Author.Tests.{ltb-false}
 use Rattle.output.specs.Text.{text, same}
 use Rattle.output.proofs.TextLaws.{same-true}
@@ -25,10 +25,10 @@ use Rattle.machine.specs.State.{clientOf, connected, addressOf, pairOf, 
 use Rattle.machine.specs.Range.{clientOk, isNone, isBlank}
 use Rattle.machine.specs.Messages
 use Rattle.machine.specs.Report.{Work}
-use Rattle.machine.specs.Requests.{Row, requests, requestIn, requestNamed, argument, askedPlaces, helpNames, listed, firstOf, strategyAsked, levelAsked, sampledSends, addresses, sampling, answer}
+use Rattle.machine.specs.Requests.{Row, requests, requestIn, requestNamed, argument, askedPlaces, hidden, shownRows, helpNames, listed, firstOf, strategyAsked, levelAsked, sampledSends, addresses, sampling, answer}
 use Rattle.machine.specs.Declined.{sensorsDeclined, helpDeclined, samplingDeclined, argumentsDeclined}
 use Rattle.machine.proofs.TestLaws.{and-true, or-true, cond-true, cond-cases}
-use Rattle.machine.proofs.PlacesLaws.{each-gather, each-one, each-weaker, each-any-false, each-map, gather-length}
+use Rattle.machine.proofs.PlacesLaws.{each-only, only-length, each-gather, each-one, each-weaker, each-any-false, each-map, gather-length}
 use Rattle.machine.proofs.SheetLaws.{text-out, Sensors, places-passed, places-below}
 use Rattle.machine.proofs.RangeLaws.{InRange, stored-is, sensors-of}
 use Rattle.machine.proofs.SamplingLaws.{listed-known, listed-below, setting-suits, first-listed}
@@ -37,7 +37,7 @@ use Rattle.machine.proofs.LineLengths.{text-short, argsMost, Sound}
 use Rattle.machine.proofs.NamesLength.{places-most, names-most}
 use Rattle.machine.proofs.ParameterLengths.{held-most}
 use Rattle.machine.proofs.DeliveryLengths.{Served, served, served-more, Sendable, sendable, one-sent, one-length, where-length, served-where, counted-sent}
-use Rattle.machine.proofs.SentSizes.{sound-disconnect, sound-report, sound-client, sound-help, sound-version, sound-sensor, sound-value, sound-ok, sound-level, sound-sampling}
+use Rattle.machine.proofs.SentSizes.{protocol-most, sound-disconnect, sound-report, sound-client, sound-help, sound-version, sound-sensor, sound-value, sound-ok, sound-level, sound-sampling}
 
 -- What the state holds.
 
@@ -83,26 +83,29 @@ rows-short : Each (λ (r : Row). ltb 15 (length (r .name)) ≡ false) requests
 unfolding any
 rows-short = each-any-false (λ (r : Row). ltb 15 (length (r .name))) requests refl
 
-named-short : (rows : List Row) → Each (λ (r : Row). ltb 15 (length (r .name)) ≡ false) rows → (name : List ℕ) → helpDeclined (requestIn rows name) ≡ 0 → length name ≤ 15
-named-short [] h name e = absurd (omega arith)
-named-short (r ∷ rows) h name e = go (same (r .name) name) refl e (named-short rows (h .1) name)
+named-short : (rows : List Row) → Each (λ (r : Row). ltb 15 (length (r .name)) ≡ false) rows → (profile : ℕ) (name : List ℕ) → helpDeclined profile (requestIn rows name) ≡ 0 → length name ≤ 15
+named-short [] h profile name e = absurd (omega arith)
+named-short (r ∷ rows) h profile name e = go (same (r .name) name) refl e (named-short rows (h .1) profile name)
   where
-    go : (b : Bool) → same (r .name) name ≡ b → helpDeclined (cond b (some (r .request)) (requestIn rows name)) ≡ 0 → (helpDeclined (requestIn rows name) ≡ 0 → length name ≤ 15) → length name ≤ 15
+    go : (b : Bool) → same (r .name) name ≡ b → helpDeclined profile (cond b (some (r .request)) (requestIn rows name)) ≡ 0 → (helpDeclined profile (requestIn rows name) ≡ 0 → length name ≤ 15) → length name ≤ 15
     go true q e ih = subst (λ t. length t ≤ 15) (same-true (r .name) name q) (ltb-false 15 (length (r .name)) (h .0))
     go false q e ih = ih e
 
-helped-short : (sheet : Sheet) (m : Message) → argumentsDeclined sheet Help m ≡ 0 → (length (helpNames m) ≤ 32) × Each (λ a. length a ≤ 15) (helpNames m)
+helped-short : (sheet : Sheet) (m : Message) → argumentsDeclined sheet Help m ≡ 0 → (length (helpNames (sheet .profile) m) ≤ 32) × Each (λ a. length a ≤ 15) (helpNames (sheet .profile) m)
 unfolding argumentsDeclined helpNames requestNamed
 helped-short sheet m h = go (eqb (length (m .args)) 0) h
   where
-    go : (b : Bool) → cond b 0 (helpDeclined (requestNamed (argument m 0))) ≡ 0
-        → (length (cond b (map (λ (r : Row). r .name) requests) (argument m 0 ∷ [])) ≤ 32) × Each (λ a. length a ≤ 15) (cond b (map (λ (r : Row). r .name) requests) (argument m 0 ∷ []))
+    shown : (rows : List Row) → Each (λ (r : Row). ltb 15 (length (r .name)) ≡ false) rows → Each (λ a. length a ≤ 15) (map (λ (r : Row). r .name) rows)
+    shown rows h = each-map (λ a. length a ≤ 15) (λ (r : Row). r .name) rows
+        (each-weaker (λ (r : Row). ltb 15 (length (r .name)) ≡ false) (λ (r : Row). length (r .name) ≤ 15) (λ r. ltb-false 15 (length (r .name))) rows h)
+
+    go : (b : Bool) → cond b 0 (helpDeclined (sheet .profile) (requestNamed (argument m 0))) ≡ 0
+        → (length (cond b (map (λ (r : Row). r .name) (shownRows (sheet .profile))) (argument m 0 ∷ [])) ≤ 32) × Each (λ a. length a ≤ 15) (cond b (map (λ (r : Row). r .name) (shownRows (sheet .profile))) (argument m 0 ∷ []))
     go true e = (
-      omega arith,
-      each-map (λ a. length a ≤ 15) (λ (r : Row). r .name) requests
-          (each-weaker (λ (r : Row). ltb 15 (length (r .name)) ≡ false) (λ (r : Row). length (r .name) ≤ 15) (λ r. ltb-false 15 (length (r .name))) requests rows-short),
+      omega (arith, length-map (shownRows (sheet .profile)) (λ (r : Row). r .name), only-length (λ (r : Row). not (hidden (sheet .profile) (r .request))) requests),
+      shown (shownRows (sheet .profile)) (each-only _ (λ (r : Row). not (hidden (sheet .profile) (r .request))) requests rows-short),
     )
-    go false e = (omega arith, (named-short requests rows-short (argument m 0) e, tt))
+    go false e = (omega arith, (named-short requests rows-short (sheet .profile) (argument m 0) e, tt))
 
 -- the sensors that are told of
 places-short : (sheet : Sheet) → Sensors sheet → (m : Message) → sensorsDeclined sheet m ≡ 0 → (length (askedPlaces sheet m) ≤ 32) × Each (λ j. j < sheet .count) (askedPlaces sheet m)
@@ -111,7 +114,7 @@ places-short sheet r m h =
     (places-most sheet r (askedPlaces sheet m) (a .0) (a .1 .0), places-below sheet (askedPlaces sheet m) (a .0))
 
 module _ (s : State) (g : InRange s) (c : ℕ) (hc : c < 8) (m : Message) (r : Head m) where
-  ending-sent : (why : List ℕ) → length why ≤ 32 → Sendable (to c (Messages.okReply m []) ∷ Messages.toAll s (Messages.disconnect why))
+  ending-sent : (why : List ℕ) → length why ≤ 80 → Sendable (to c (Messages.okReply m []) ∷ Messages.toAll s (Messages.disconnect why))
   ending-sent why h =
       let farewell = Messages.disconnect why in
       sendable 9 1300 (to c (Messages.okReply m []) ∷ Messages.toAll s farewell) (omega arith) (omega arith) (omega (arith, where-length (connected s) farewell))
@@ -171,11 +174,11 @@ module _ (s : State) (g : InRange s) (c : ℕ) (hc : c < 8) (m : Message) (r : H
       (λ j l. let x = stored-is s g j l (le-trans l (sensors-of s g .count-most)) in
       sound-value (m .id) (r .id) s (s .sheet) j (le-trans (x .1) (g .clock-in)) (sensors-of s g .sensor-is j l) (x .0))
 
-  versions-sent : Sendable (Messages.countedAnswer c m (map (Messages.versionInform (m .id)) (Messages.protocolArgs ∷ Messages.deviceArgs (s .sheet) ∷ [])))
+  versions-sent : Sendable (Messages.countedAnswer c m (map (Messages.versionInform (m .id)) (Messages.protocolArgs (s .sheet .profile) ∷ Messages.deviceArgs (s .sheet) ∷ [])))
   versions-sent =
       let q = titles-short s g in
-      informs-sent (Messages.versionInform (m .id)) (λ args. argsMost args ≤ 165) (Messages.protocolArgs ∷ Messages.deviceArgs (s .sheet) ∷ []) (omega arith)
-      (omega arith, (omega (arith, q .0, q .1), tt)) (sound-version (m .id) (r .id))
+      informs-sent (Messages.versionInform (m .id)) (λ args. argsMost args ≤ 165) (Messages.protocolArgs (s .sheet .profile) ∷ Messages.deviceArgs (s .sheet) ∷ []) (omega arith)
+      (protocol-most (s .sheet .profile), (omega (arith, q .0, q .1), tt)) (sound-version (m .id) (r .id))
 
   pub answer-sent : (q : Request) → argumentsDeclined (s .sheet) q m ≡ 0 → Sendable (answer (s .sheet) s c q m .sent)
   unfolding argumentsDeclined answer
@@ -185,7 +188,7 @@ module _ (s : State) (g : InRange s) (c : ℕ) (hc : c < 8) (m : Message) (r : H
   answer-sent Halt h = ending-sent (text "Device halting.") (omega arith)
   answer-sent Help h =
       let q = helped-short (s .sheet) m h in
-      informs-sent (Messages.helpInform (m .id)) (λ a. length a ≤ 15) (helpNames m) (q .0) (q .1) (sound-help (m .id) (r .id))
+      informs-sent (Messages.helpInform (m .id)) (λ a. length a ≤ 15) (helpNames (s .sheet .profile) m) (q .0) (q .1) (sound-help (m .id) (r .id))
   answer-sent LogLevel h = one-sent _ (served hc (sound-level m r (levelAsked s m)))
   answer-sent Restart h = ending-sent (text "Device restarting.") (omega arith)
   answer-sent SensorList h = sensor-list-sent h

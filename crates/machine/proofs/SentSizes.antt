@@ -20,7 +20,7 @@ use Rattle.machine.specs.declared.Sheet.{Sheet}
 use Rattle.machine.specs.declared.State.{State}
 use Rattle.machine.specs.declared.Strategy.{Strategy}
 use Rattle.machine.specs.Places.{allBelow}
-use Rattle.machine.specs.Sheet.{sensorOf, nameOf, descriptionOf, unitsOf, apiOf, buildOf}
+use Rattle.machine.specs.Sheet.{single, sensorOf, nameOf, descriptionOf, unitsOf, apiOf, buildOf}
 use Rattle.machine.specs.State.{storedOf, present}
 use Rattle.machine.specs.Range.{sampleOk}
 use Rattle.machine.specs.Messages
@@ -68,9 +68,16 @@ code-short n = go (eqb n 16 || (eqb n 18 || eqb n 23))
 
 -- Connecting and leaving.
 
-pub sound-protocol : Sound 1300 (Messages.versionConnect Messages.protocolArgs)
+pub protocol-most : (profile : ℕ) → argsMost (Messages.protocolArgs profile) ≤ 165
+protocol-most profile = go (single profile)
+  where
+    go : (b : Bool) → argsMost (text "katcp-protocol" ∷ cond b (text "5.1-IB") (text "5.1-MIB") ∷ []) ≤ 165
+    go true = omega arith
+    go false = omega arith
+
+pub sound-protocol : (profile : ℕ) → Sound 1300 (Messages.versionConnect (Messages.protocolArgs profile))
 unfolding titleByte letter isDigit
-sound-protocol = sound-inform 1300 0 (text "version-connect") Messages.protocolArgs refl refl (omega arith) (omega arith)
+sound-protocol profile = sound-inform 1300 0 (text "version-connect") (Messages.protocolArgs profile) refl refl (omega arith) (omega (arith, protocol-most profile))
 
 pub sound-device : (sheet : Sheet) → length (apiOf sheet) ≤ 32 → length (buildOf sheet) ≤ 32 → Sound 1300 (Messages.versionConnect (Messages.deviceArgs sheet))
 unfolding titleByte letter isDigit
@@ -80,7 +87,7 @@ pub sound-newcomer : (address : List ℕ) → length address ≤ 48 → Sound 13
 unfolding titleByte letter isDigit
 sound-newcomer address h = sound-inform 1300 0 (text "client-connected") (address ∷ []) refl refl (omega arith) (omega arith)
 
-pub sound-disconnect : (why : List ℕ) → length why ≤ 32 → Sound 1300 (Messages.disconnect why)
+pub sound-disconnect : (why : List ℕ) → length why ≤ 80 → Sound 1300 (Messages.disconnect why)
 unfolding titleByte letter
 sound-disconnect why h = sound-inform 1300 0 (text "disconnect") (why ∷ []) refl refl (omega arith) (omega arith)
 

@@ -27,6 +27,7 @@ use Rattle.machine.proofs.KeptLaws.{perform-kept}
 use Rattle.machine.proofs.NextLaws.{answer-next, line-next}
 use Rattle.machine.proofs.ListLaws.{opened-alone, sheet-is, connect-pair}
 use Rattle.machine.proofs.KnownLaws.{Good, good-fresh, good-sampled, good-visit}
+use Rattle.machine.specs.Opening.{Start}
 
 module _ (a j : ℕ) (ha : a < 8) (hj : j < 32) where
   -- the archive's pair for the sensor is good
@@ -89,8 +90,8 @@ module _ (a j : ℕ) (ha : a < 8) (hj : j < 32) where
       go z on false e = let r = range-out s (accepted s call z .in-range) in let b = perform-kept s r a j ha hj (call .action) (accepted s call z .fits) e on .before in
           perform-good s hs (ih b) b (call .action) e on
 
-  pub good : (bytes : List ℕ) → j < sheetOf bytes .count → (h : List Call) → connected (after bytes h) a ≡ true → GoodIn (sheetOf bytes) (after bytes h)
+  pub good : (start : Start) → j < sheetOf start .count → (h : List Call) → connected (after start h) a ≡ true → GoodIn (sheetOf start) (after start h)
   unfolding after
-  good bytes hs [] on = absurd (true≢false (sym on ∙ opened-alone bytes a))
-  good bytes hs (call ∷ h) on = subst (λ sheet. GoodIn sheet (step (after bytes h) call .next)) (sheet-is bytes h)
-      (good-step (after bytes h) call (subst (λ sheet. j < sheet .count) (sym (sheet-is bytes h)) hs) (λ q. subst (λ sheet. GoodIn sheet (after bytes h)) (sym (sheet-is bytes h)) (good bytes hs h q)) on)
+  good start hs [] on = absurd (true≢false (sym on ∙ opened-alone start a))
+  good start hs (call ∷ h) on = subst (λ sheet. GoodIn sheet (step (after start h) call .next)) (sheet-is start h)
+      (good-step (after start h) call (subst (λ sheet. j < sheet .count) (sym (sheet-is start h)) hs) (λ q. subst (λ sheet. GoodIn sheet (after start h)) (sym (sheet-is start h)) (good start hs h q)) on)

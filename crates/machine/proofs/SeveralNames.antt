@@ -5,7 +5,7 @@ use native.Mathlib.Omega.{arith}
 use mathlib.Core.Path.{_≡_, refl, ap, sym, _∙_}
 use mathlib.Core.Bool.{Bool, true, false, cond, not, _||_}
 use mathlib.Core.List.{List, [], _∷_, _++_, map, map-map}
-use lib.Dec.{eqb, leb}
+use lib.Dec.{eqb, leb, ltb}
 use lib.ListN.{length}
 use borrow.Author.Tests.{le-leb, le-ltb, leb-false, eq-eqb, eqb-true}
 use Rattle.output.specs.Text.{same}
@@ -16,15 +16,16 @@ use Rattle.machine.specs.declared.State.{State}
 use Rattle.machine.specs.declared.Request.{Request}
 use Rattle.machine.specs.declared.Request.the-variants.{SensorList, SensorSampling, SensorValue}
 use Rattle.machine.specs.Places.{any, has, twice, Each}
-use Rattle.machine.specs.Sheet.{placeOf, notOnSheet, sensorOf, nameOf}
+use Rattle.machine.specs.Sheet.{lastClient, placeOf, notOnSheet, sensorOf, nameOf}
 use Rattle.machine.specs.Messages.{sensorInform, valueInform, countedAnswer}
-use Rattle.machine.specs.Requests.{Asks, split, before, listed, askedPlaces, answer, sendsOnly}
+use Rattle.machine.specs.Requests.{Asks, hidden, split, before, listed, askedPlaces, answer, sendsOnly}
 use Rattle.machine.specs.Declined.{Line, callOf, declined, actionDeclined, clientDeclined, lineDeclined, lineRefusal, refusal, countFits, argumentsDeclined, placesDeclined, samplingDeclined}
 use Rattle.machine.specs.Machine.{done, left, outcome, perform, lineWork, step}
 use Rattle.machine.specs.SeveralNames.{commaList, unknownName, namedTwice, replyAlone, namesAnswered, nameAnswered, informed, sensorOn, valueOn, Received, AnswersNames, DeclinesAlike, SeveralNames}
 use Rattle.machine.proofs.TestLaws.{test-same, or-false, cond-false, eqb-sym}
 use Rattle.machine.proofs.PlacesLaws.{each-any-false, each-weaker}
 use Rattle.machine.proofs.SheetLaws.{name-of-place}
+use Rattle.machine.proofs.RangeLaws.{range-out}
 use Rattle.machine.proofs.StepLaws.{own-rows}
 
 -- a test of what stands for the elements
@@ -92,26 +93,33 @@ cut-names name (next ∷ names) h = split-more name (commaList next names) (h .0
 module _ (s : State) (c : ℕ) (line lent : List ℕ) (r : Request) (m : Message) (q : Received s c line lent r m) where
   row-is : declined (s .sheet) s (callOf (Line c line) lent) ≡ lineDeclined (s .sheet) (Asks r m)
   unfolding actionDeclined clientDeclined
-  row-is = own-rows s (callOf (Line c line) lent) (q .in-range) (q .room) (q .running) ∙ rw (le-ltb 7 c (omega (arith, q .client)), q .there, q .asks)
+  row-is = own-rows s (callOf (Line c line) lent) (q .in-range) (q .room) (q .running) ∙ rw (le-ltb (lastClient (s .sheet .profile)) c (range-out s (q .in-range) .last-in c (q .client) (q .there)), q .there, q .asks)
 
-  -- declined with 16 or 21
-  alone : (n : ℕ) → 12 ≤ n → left s n (Line c line) ≡ replyAlone s c m n
+  -- by the number of the row that declines it
+  pub by-row : (n : ℕ) → lineDeclined (s .sheet) (Asks r m) ≡ n → step s (callOf (Line c line) lent) ≡ outcome (s .sheet) s (Line c line) n
+  by-row n e = ap (outcome (s .sheet) s (Line c line)) (row-is ∙ e)
+
+  -- declined with the number of a row that answers
+  pub alone : (n : ℕ) → (ltb n 12 || ltb 23 n) ≡ false → left s n (Line c line) ≡ replyAlone s c m n
   unfolding refusal lineRefusal
-  alone n h = rw (le-ltb n 12 h, q .asks)
+  alone n h = rw (h, q .asks)
 
   module _ (names : List (List ℕ)) (rest : ℕ) {js : List ℕ} (row : lineDeclined (s .sheet) (Asks r m) ≡ placesDeclined (s .sheet) js rest) (are : js ≡ map (placeOf (s .sheet)) names) where
     by-names : step s (callOf (Line c line) lent) ≡ outcome (s .sheet) s (Line c line) (cond (any (unknownName (s .sheet)) names) 16 (cond (namedTwice names) 21 rest))
-    by-names = ap (outcome (s .sheet) s (Line c line)) (row-is ∙ row ∙ ap (λ js. placesDeclined (s .sheet) js rest) are ∙ places-names (s .sheet) names rest)
+    by-names = by-row _ (row ∙ ap (λ js. placesDeclined (s .sheet) js rest) are ∙ places-names (s .sheet) names rest)
 
     alike : DeclinesAlike s c line lent m names
     unfolding outcome
-    alike = record { unknown = λ e. by-names ∙ rw e (alone 16 (omega arith)); named-twice = λ e t. by-names ∙ rw (e, t) (alone 21 (omega arith)) }
+    alike = record { unknown = λ e. by-names ∙ rw e (alone 16 refl); named-twice = λ e t. by-names ∙ rw (e, t) (alone 21 refl) }
 
   -- carried out
+  pub all-informed : (informs : List Message) → answer (s .sheet) s c r m ≡ sendsOnly s (countedAnswer c m informs) → done (perform (s .sheet) s (Line c line)) ≡ informed s c m informs
+  unfolding perform lineWork countedAnswer
+  all-informed informs work = rw (q .asks, work)
+
   all-told : (f : ℕ → Message) (names : List (List ℕ)) → answer (s .sheet) s c r m ≡ sendsOnly s (countedAnswer c m (map f (map (placeOf (s .sheet)) names)))
       → done (perform (s .sheet) s (Line c line)) ≡ informed s c m (map (λ name. f (placeOf (s .sheet) name)) names)
-  unfolding perform lineWork countedAnswer
-  all-told f names work = rw (q .asks, work, map-map f (placeOf (s .sheet)) names)
+  all-told f names work = all-informed (map f (map (placeOf (s .sheet)) names)) work ∙ ap (informed s c m) (map-map f (placeOf (s .sheet)) names)
 
   told : (f : ℕ → Message) (names : List (List ℕ)) → lineDeclined (s .sheet) (Asks r m) ≡ placesDeclined (s .sheet) (map (placeOf (s .sheet)) names) 0
       → answer (s .sheet) s c r m ≡ sendsOnly s (countedAnswer c m (map f (map (placeOf (s .sheet)) names)))
@@ -121,23 +129,23 @@ module _ (s : State) (c : ℕ) (line lent : List ℕ) (r : Request) (m : Message
     where
       go : (a b : Bool) → outcome (s .sheet) s (Line c line) (cond a 16 (cond b 21 0))
           ≡ cond a (replyAlone s c m 16) (cond b (replyAlone s c m 21) (informed s c m (map (λ name. f (placeOf (s .sheet) name)) names)))
-      go true b = alone 16 (omega arith)
-      go false true = alone 21 (omega arith)
+      go true b = alone 16 refl
+      go false true = alone 21 refl
       go false false = all-told f names work
 
 -- The three requests.
 
 list-told : AnswersNames SensorList sensorOn
-unfolding lineDeclined countFits argumentsDeclined askedPlaces listed answer
+unfolding hidden lineDeclined countFits argumentsDeclined askedPlaces listed answer
 list-told s c line lent m q list e = told s c line lent SensorList m q (λ j. sensorInform (m .id) (sensorOf (s .sheet) j)) (split list) (rw e) (rw e)
 
 value-told : AnswersNames SensorValue valueOn
-unfolding lineDeclined countFits argumentsDeclined askedPlaces listed answer
+unfolding hidden lineDeclined countFits argumentsDeclined askedPlaces listed answer
 value-told s c line lent m q list e = told s c line lent SensorValue m q (valueInform (m .id) s (s .sheet)) (split list) (rw e) (rw e)
 
 sampling-alike : (s : State) (c : ℕ) (line lent : List ℕ) (m : Message) → Received s c line lent SensorSampling m → (list : List ℕ) (more : List (List ℕ)) → m .args ≡ list ∷ more
     → DeclinesAlike s c line lent m (split list)
-unfolding lineDeclined countFits argumentsDeclined samplingDeclined listed
+unfolding hidden lineDeclined countFits argumentsDeclined samplingDeclined listed
 sampling-alike s c line lent m q list more e = alike s c line lent SensorSampling m q (split list) _ (cond-false (not (leb 1 (length (m .args)))) 15 (samplingDeclined (s .sheet) m) (ap not some)) (rw e)
   where
     some : leb 1 (length (m .args)) ≡ true

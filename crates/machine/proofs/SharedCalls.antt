@@ -3,7 +3,7 @@ use Prim.Native.Nat.{ℕ, zero, suc, _<_}
 use native.Mathlib.Omega.{arith}
 use mathlib.Core.Path.{_≡_, refl, ap, sym, _∙_, subst}
 use mathlib.Core.Bool.{Bool, true, false, cond, not, _&&_, true≢false}
-use mathlib.Core.List.{List, [], _∷_, map}
+use mathlib.Core.List.{List, [], _∷_, _++_, map}
 use lib.Dec.{eqb, ltb}
 use lib.ListN.{length, getD}
 use borrow.Author.Tests.{eqb-true}
@@ -17,15 +17,15 @@ use Rattle.machine.specs.declared.State.{State}
 use Rattle.machine.specs.declared.Request.{Request}
 use Rattle.machine.specs.declared.Request.the-variants.{ClientList, Halt, Help, LogLevel, Restart, SensorList, SensorSampling, SensorValue, VersionList, Watchdog}
 use Rattle.machine.specs.declared.Cause.the-variants.{Tick as Ticked, Reading as Read}
-use Rattle.machine.specs.Places.{has, Each}
-use Rattle.machine.specs.Sheet.{sensorOf}
+use Rattle.machine.specs.Places.{oneIf, has, Each}
+use Rattle.machine.specs.Sheet.{single, sensorOf}
 use Rattle.machine.specs.State.{present, storedOf, supersedes, connected, pairOf, withClock, withReading, withLevel, withPairs, withClient, emptied, clientAt, blankClient}
 use Rattle.machine.specs.Range.{inRange}
 use Rattle.machine.specs.Messages
 use Rattle.machine.specs.Report.{Work}
-use Rattle.machine.specs.Requests.{Asked, Nothing, NotMessage, Reply, Unknown, Asks, asked, argument, addresses, levelAsked, listed, firstOf, strategyAsked, sampled, sampledPairs, sampledSends, sampling, sendsOnly, endConnections, answer}
-use Rattle.machine.specs.Declined.{Action, Connect, Disconnect, Tick, Reading, Log, Line, callOf, tickFits, clientDeclined, addressFits, countFits, samplingDeclined, argumentsDeclined, lineDeclined, actionDeclined, declined, refusal}
-use Rattle.machine.specs.Machine.{Effect, storedGiven, readingStored, readingWork, connectSends, lineWork, perform, outcome, step}
+use Rattle.machine.specs.Requests.{Asked, Nothing, NotMessage, Reply, Unknown, Asks, asked, hidden, argument, addresses, levelAsked, listed, firstOf, strategyAsked, sampled, sampledPairs, sampledSends, sampling, sendsOnly, endConnections, answer}
+use Rattle.machine.specs.Declined.{Action, Connect, Disconnect, Tick, Reading, Log, Line, callOf, tickFits, clientDeclined, connectRefused, addressFits, countFits, samplingDeclined, argumentsDeclined, lineDeclined, actionDeclined, declined, refusal}
+use Rattle.machine.specs.Machine.{Effect, storedGiven, readingStored, readingWork, greeting, connectSingle, connectSends, lineWork, perform, outcome, step}
 use Rattle.machine.specs.Others.{isShared, ofOthers, AlikeFor}
 use Rattle.machine.proofs.TestLaws.{passed}
 use Rattle.machine.proofs.PlacesLaws.{each-append, each-map, each-of}
@@ -121,14 +121,14 @@ module _ (a : ℕ) (ha : a < 8) (s : State) (r : InRange s) (l : ℕ) (ks : List
 
   line-alike : (line : List ℕ) → actionDeclined (s .sheet) s (Line a line) ≡ 0 → WorkAlike a (lineWork (s .sheet) s a (asked line)) (lineWork (s .sheet) t a (asked line))
   unfolding actionDeclined lineDeclined lineWork
-  line-alike line d = go (asked line) refl (client-fits (not (connected s a)) a (lineDeclined (s .sheet) (asked line)) d .1 .1)
+  line-alike line d = go (asked line) refl (client-fits (s .sheet .profile) (not (connected s a)) a (lineDeclined (s .sheet) (asked line)) d .1 .1)
     where
       go : (w : Asked) → asked line ≡ w → lineDeclined (s .sheet) w ≡ 0 → WorkAlike a (lineWork (s .sheet) s a w) (lineWork (s .sheet) t a w)
       go Nothing e z = nothing-alike
       go NotMessage e z = nothing-alike
       go Reply e z = nothing-alike
       go (Unknown m) e z = nothing-alike
-      go (Asks q m) e z = answer-alike q m (asks-is line q m e .named) (passed (not (countFits q (length (m .args)))) 15 (argumentsDeclined (s .sheet) q m) (omega arith) z .1)
+      go (Asks q m) e z = answer-alike q m (asks-is line q m e .named) (passed (not (countFits q (length (m .args)))) 15 (argumentsDeclined (s .sheet) q m) (omega arith) (passed (hidden (s .sheet .profile) q) 14 _ (omega arith) z .1) .1)
 
   -- Calls.
 
@@ -139,17 +139,22 @@ module _ (a : ℕ) (ha : a < 8) (s : State) (r : InRange s) (l : ℕ) (ks : List
     pair = λ j hj. pair-of-client s a j ha hj c k ∙ (ap (cond (eqb a c) _) (g .pair j hj) ∙ sym (pair-of-client t a j ha hj c k));
   })
 
-  -- the newcomer's own lines, and `#client-connected` aside
-  connect-told : (c : ℕ) (address : List ℕ) → toldTo a (connectSends (s .sheet) s c address) ≡ toldTo a (connectSends (s .sheet) t c address)
+  -- the lines of its own connect, and `#client-connected` aside
+  connect-told : (c : ℕ) (address : List ℕ) → eqb c a ≡ true → toldTo a (connectSends (s .sheet) s c address) ≡ toldTo a (connectSends (s .sheet) t c address)
   unfolding connectSends
-  connect-told c address = told-more a _ _ _ (told-more a _ _ _ (both-aside a _ _ (others s) (others t)))
+  connect-told c address e = go (single (s .sheet .profile))
     where
       others : (n : State) → Each (Aside a) (Messages.toOthers n c (Messages.clientConnected address))
       others n = where-aside a (λ k. connected n k && not (eqb k c)) (Messages.clientConnected address) refl
 
+      go : (b : Bool) → toldTo a (cond b (connectSingle (s .sheet) s c address) (greeting (s .sheet) c ++ Messages.toOthers s c (Messages.clientConnected address)))
+          ≡ toldTo a (cond b (connectSingle (s .sheet) t c address) (greeting (s .sheet) c ++ Messages.toOthers t c (Messages.clientConnected address)))
+      go true = ap (λ b. toldTo a (oneIf b (to c (Messages.displaced address)) ++ greeting (s .sheet) c)) (there-same c e)
+      go false = told-more a _ _ _ (told-more a _ _ _ (both-aside a _ _ (others s) (others t)))
+
   perform-alike : (action : Action) → isShared a action ≡ true → actionDeclined (s .sheet) s action ≡ 0 → WorkAlike a (perform (s .sheet) s action) (perform (s .sheet) t action)
   unfolding perform readingWork withReading
-  perform-alike (Connect c address) e d = record { states = client-alike c (clientAt address); told = connect-told c address }
+  perform-alike (Connect c address) e d = record { states = client-alike c (clientAt address); told = connect-told c address e }
   perform-alike (Disconnect c) e d = record { states = client-alike c blankClient; told = refl }
   perform-alike (Tick n) e d = visit-alike a ha (withClock s n) l ks ps (record { client = g .client; pair = g .pair }) Ticked
   perform-alike (Reading j x) e d = go (supersedes (x .time) (storedOf s j))
@@ -165,12 +170,12 @@ module _ (a : ℕ) (ha : a < 8) (s : State) (r : InRange s) (l : ℕ) (ks : List
 
   rows-same : (action : Action) → isShared a action ≡ true → actionDeclined (s .sheet) s action ≡ actionDeclined (s .sheet) t action
   unfolding actionDeclined tickFits
-  rows-same (Connect c address) e = ap (λ b. clientDeclined b c (cond (addressFits address) 0 7)) (there-same c e)
-  rows-same (Disconnect c) e = ap (λ b. clientDeclined (not b) c 0) (there-same c e)
+  rows-same (Connect c address) e = ap (λ b. clientDeclined (s .sheet .profile) (connectRefused (s .sheet .profile) b) c (cond (addressFits address) 0 7)) (there-same c e)
+  rows-same (Disconnect c) e = ap (λ b. clientDeclined (s .sheet .profile) (not b) c 0) (there-same c e)
   rows-same (Tick n) e = refl
   rows-same (Reading j x) e = refl
   rows-same (Log level logger said) e = absurd (true≢false (sym e))
-  rows-same (Line c line) e = ap (λ b. clientDeclined (not b) c (lineDeclined (s .sheet) (asked line))) (there-same c e)
+  rows-same (Line c line) e = ap (λ b. clientDeclined (s .sheet .profile) (not b) c (lineDeclined (s .sheet) (asked line))) (there-same c e)
 
   refusal-same : (n : ℕ) (action : Action) → refusal s n action ≡ refusal t n action
   unfolding refusal

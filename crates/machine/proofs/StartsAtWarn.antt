@@ -20,7 +20,7 @@ LevelBy o = levelText (o .state .level) ≡ cond (eqb (o .number) 0) (text "warn
 pub starts-at-warn : StartsAtWarn
 unfolding perform lineWork answer levelText
 starts-at-warn = record {
-  opened-level = λ bytes. opened-cases LevelBy bytes (λ _ _. refl) refl;
+  opened-level = λ start. opened-cases LevelBy start (λ _ _ _. refl) (λ n z. rw z);
   restarted-level = λ s c line lent m e. by-cases (λ (f : Effect). f .number ≡ 0 → levelText (f .next .level) ≡ text "warn") s (callOf (Line c line) lent) (λ _ _. rw e) (λ n _ q. absurd (omega arith));
   halted-level = λ s c line lent m e. by-cases (λ (f : Effect). f .next .level ≡ s .level) s (callOf (Line c line) lent) (λ _. rw e) (λ _ _. refl);
 }

@@ -2,7 +2,7 @@
 use Prim.Native.Nat.{ℕ, _/_, _%_, _≤_, _<_}
 use native.Mathlib.Omega.{arith}
 use mathlib.Core.Path.{_≡_, refl, ap, sym, _∙_, subst}
-use mathlib.Core.Bool.{Bool, true, false, cond, not, _&&_, _||_}
+use mathlib.Core.Bool.{Bool, true, false, cond, not, _&&_, _||_, true≢false}
 use mathlib.Core.List.{List}
 use lib.Dec.{eqb, leb, ltb}
 use lib.ListN.{getD}
@@ -15,14 +15,14 @@ use Rattle.machine.specs.declared.Client.{Client}
 use Rattle.machine.specs.declared.State.{State}
 use Rattle.machine.specs.declared.Cause.{Cause}
 use Rattle.machine.specs.Places.{tabulate, has}
-use Rattle.machine.specs.Sheet.{sensorOf, titlesOk}
+use Rattle.machine.specs.Sheet.{lastClient, sensorOf, titlesOk}
 use Rattle.machine.specs.State.{noSubscription, clientOf, connected, storedOf, present, pairAt, withClock, withLevel, withPairs, withClient, emptied, withReading}
 use Rattle.machine.specs.Range.{sampleOk, sampleNone, storedOk, storedNone, clientOk, strategyOk, isNone, pairNone, storedOkAt, pairOkAt, isBlank}
 use Rattle.machine.specs.Report.{dueAt, reported, pairAfter}
 use Rattle.machine.specs.Requests.{sampled, sampledPairs}
 use Rattle.machine.proofs.TestLaws.{and-true, and-in, cond-true, cond-either}
 use Rattle.machine.proofs.PlacesLaws.{getD-tabulate}
-use Rattle.machine.proofs.StateLaws.{client-after, stored-after}
+use Rattle.machine.proofs.StateLaws.{client-after, stored-after, none-connected}
 use Rattle.machine.proofs.RangeLaws.{InRange, stored-is}
 use Rattle.machine.proofs.PairRange.{pairFits, pair-same, Reported, pair-of-report, pair-of-none, pair-cases, pair-of-no-subscription, pair-later, pair-suits}
 use Rattle.machine.proofs.OpenedRange.{none-connected-in, no-pair-in}
@@ -54,6 +54,8 @@ module _ (s : State) (r : InRange s) (titled : titlesOk (s .sheet) ≡ true) whe
     stored-in = λ j k. later j (ltb j (s .sheet .count)) (r .stored-in j k);
     client-in = r .client-in;
     pair-in = λ p k. pair-later (s .sheet) (s .clock) t (connected s (p / 32)) p (pairAt s p) l (r .pair-in p k);
+    profile-in = r .profile-in;
+    last-in = r .last-in;
   }
     where
       later : (j : ℕ) (b : Bool) → cond b (storedOk (s .clock) (sensorOf (s .sheet) j) (storedOf s j)) (storedNone (storedOf s j)) ≡ true
@@ -71,6 +73,8 @@ module _ (s : State) (r : InRange s) (titled : titlesOk (s .sheet) ≡ true) whe
     stored-in = r .stored-in;
     client-in = r .client-in;
     pair-in = r .pair-in;
+    profile-in = r .profile-in;
+    last-in = r .last-in;
   }
 
   pub emptied-kept : (halted : Bool) (l : ℕ) → l ≤ 7 → InRange (emptied s halted l)
@@ -83,6 +87,8 @@ module _ (s : State) (r : InRange s) (titled : titlesOk (s .sheet) ≡ true) whe
     stored-in = r .stored-in;
     client-in = λ c k. none-connected-in c;
     pair-in = λ p k. no-pair-in (s .sheet) (s .clock) (connected (emptied s halted l) (p / 32)) p;
+    profile-in = r .profile-in;
+    last-in = λ c k there. absurd (true≢false (sym there ∙ none-connected c));
   }
 
   -- sensor j is given the reading x
@@ -96,6 +102,8 @@ module _ (s : State) (r : InRange s) (titled : titlesOk (s .sheet) ≡ true) whe
     stored-in = λ i k. subst (λ (y : Stored). At i y) (sym (stored-after s j i x k)) (go i (eqb i j) refl (r .stored-in i k));
     client-in = r .client-in;
     pair-in = r .pair-in;
+    profile-in = r .profile-in;
+    last-in = r .last-in;
   }
     where
       At : ℕ → Stored → Type 0
@@ -109,9 +117,9 @@ module _ (s : State) (r : InRange s) (titled : titlesOk (s .sheet) ≡ true) whe
       go i false e q = q
 
   -- client c is now k
-  pub client-kept : (c : ℕ) (k : Client) → clientOk k ≡ true → InRange (withClient s c k)
+  pub client-kept : (c : ℕ) (k : Client) → c ≤ lastClient (s .sheet .profile) → clientOk k ≡ true → InRange (withClient s c k)
   unfolding storedOkAt pairOkAt withClient
-  client-kept c k f = record {
+  client-kept c k u f = record {
     titles-in = ap (λ b. b || isBlank (withClient s c k)) titled;
     sensors-in = r .sensors-in;
     clock-in = r .clock-in;
@@ -121,8 +129,14 @@ module _ (s : State) (r : InRange s) (titled : titlesOk (s .sheet) ≡ true) whe
     pair-in = λ p h. pair-same (s .sheet) (s .clock) (connected (withClient s c k) (p / 32)) (cond (eqb (p / 32) c) k (clientOf s (p / 32)) .connected) p (pairAt (withClient s c k) p) _
         (ap (λ (y : Client). y .connected) (client-after s c (p / 32) k (omega arith))) (getD-tabulate _ 256 p noSubscription h)
         (pair (eqb (p / 32) c) p (r .pair-in p h));
+    profile-in = r .profile-in;
+    last-in = λ a h there. last a h (eqb a c) refl (sym (ap (λ (y : Client). y .connected) (client-after s c a k h)) ∙ there);
   }
     where
+      last : (a : ℕ) → a < 8 → (b : Bool) → eqb a c ≡ b → cond b k (clientOf s a) .connected ≡ true → a ≤ lastClient (s .sheet .profile)
+      last a h true e there = omega (arith, u, eqb-true a c e)
+      last a h false e there = r .last-in a h there
+
       pair : (b : Bool) (p : ℕ) → pairFits (s .sheet) (s .clock) (connected s (p / 32)) p (pairAt s p) ≡ true
           → pairFits (s .sheet) (s .clock) (cond b k (clientOf s (p / 32)) .connected) p (cond b noSubscription (pairAt s p)) ≡ true
       pair true p q = pair-of-no-subscription (s .sheet) (s .clock) (k .connected) p
@@ -139,6 +153,8 @@ module _ (s : State) (r : InRange s) (titled : titlesOk (s .sheet) ≡ true) whe
     stored-in = r .stored-in;
     client-in = r .client-in;
     pair-in = h;
+    profile-in = r .profile-in;
+    last-in = r .last-in;
   }
 
   -- the present reading of a sensor on the sheet, reported now

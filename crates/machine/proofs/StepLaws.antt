@@ -4,7 +4,7 @@ use Prim.Native.Char.{code}
 use native.Mathlib.Omega.{arith}
 use mathlib.Core.Path.{_≡_, refl, ap, sym, _∙_, subst}
 use mathlib.Core.Bool.{Bool, true, false, cond, not, _||_, true≢false}
-use mathlib.Core.List.{List, []}
+use mathlib.Core.List.{List, [], _∷_}
 use mathlib.Core.Option.{Option, none, some}
 use lib.Dec.{eqb, ltb}
 use lib.ListN.{length}
@@ -12,6 +12,7 @@ use borrow.Author.Tests.{leb-false, ltb-false, le-ltb, eqb-true, not-false}
 use Rattle.output.specs.Text.{text, same}
 use Rattle.output.proofs.TextLaws.{same-true}
 use Rattle.message.specs.Message.{Message}
+use Rattle.message.specs.Delivery.{Delivery, to}
 use Rattle.line.specs.Line.{Parse, malformed, message, kindByte, parse, blankLine}
 use Rattle.line.proofs.ParsedHead.{parsed-head, blank-parse}
 use Rattle.value.specs.Reading.{sampleOf}
@@ -20,15 +21,18 @@ use Rattle.machine.specs.declared.Sheet.{Sheet}
 use Rattle.machine.specs.declared.State.{State}
 use Rattle.machine.specs.declared.Request.{Request}
 use Rattle.machine.specs.declared.Request.the-variants.{ClientList, Halt, Help, LogLevel, Restart, SensorList, SensorSampling, SensorValue, VersionList, Watchdog}
-use Rattle.machine.specs.Sheet.{sensorOf, notOnSheet}
+use Rattle.machine.specs.Sheet.{single, lastClient, sensorOf, notOnSheet}
 use Rattle.machine.specs.Range.{inRange}
-use Rattle.machine.specs.Requests.{Asked, Nothing, NotMessage, Reply, Unknown, Asks, asked, askedBy, askedFor, requestNamed, sendsOnly, answer}
-use Rattle.machine.specs.Declined.{Arrival, Call, rowsBehind, clientDeclined, readingDeclined, actionDeclined, declined, Action, Connect, Disconnect, Tick, Reading, Log, Line, countFits, argumentsDeclined, lineDeclined}
-use Rattle.machine.specs.Machine.{Effect, done, left, outcome, readingStored, readingWork, perform, step, lineWork}
-use Rattle.machine.proofs.TestLaws.{passed, or-true, not-none}
+use Rattle.machine.specs.Requests.{Asked, Nothing, NotMessage, Reply, Unknown, Asks, asked, askedBy, askedFor, requestNamed, hidden, sendsOnly, answer}
+use Rattle.machine.specs.Declined.{Arrival, Call, rowsBehind, aboveLast, clientDeclined, readingDeclined, actionDeclined, declined, Action, Connect, Disconnect, Tick, Reading, Log, Line, countFits, argumentsDeclined, lineDeclined}
+use Rattle.machine.specs.Machine.{Effect, done, left, outcome, greeting, connectSends, readingStored, readingWork, perform, step, lineWork}
+use Rattle.machine.proofs.TestLaws.{passed, or-true, not-none, cond-cases}
 use Rattle.machine.specs.State.{storedOf, supersedes, connected}
 use Rattle.machine.specs.Report.{Work}
 use Rattle.machine.specs.TwoDevices.{isConnect}
+use Rattle.machine.specs.Places.{Each, oneIf}
+use Rattle.machine.specs.Messages.{protocolArgs, deviceArgs, versionConnect, clientConnected, displaced, toOthers}
+use Rattle.machine.proofs.PlacesLaws.{each-append, each-one}
 
 -- every fact of a call splits here
 pub by-cases : (P : Effect → Type 0) (s : State) (call : Call)
@@ -84,12 +88,27 @@ declined-in-range s call n e h = go (inRange s) refl
         one q = rw (← e) (ap (λ b. cond (not b) 1 (cond (ltb (length (call .lent)) 65536) 2 (cond (s .halted) 3 (actionDeclined (s .sheet) s (call .action))))) (sym q))
 
 -- rows 5 and 6 passed
-pub client-fits : (refused : Bool) (c rest : ℕ) → clientDeclined refused c rest ≡ 0 → (c < 8) × ((refused ≡ false) × (rest ≡ 0))
+pub client-last : (profile : ℕ) (refused : Bool) (c rest : ℕ) → clientDeclined profile refused c rest ≡ 0 → (c ≤ lastClient profile) × ((refused ≡ false) × (rest ≡ 0))
 unfolding clientDeclined
-client-fits refused c rest e =
-    let a = passed (ltb 7 c) 5 _ (omega arith) e in
+client-last profile refused c rest e =
+    let a = passed (ltb (lastClient profile) c) (aboveLast profile) _ (some-row (single profile)) e in
     let b = passed refused 6 rest (omega arith) (a .1) in
-    (omega (arith, ltb-false 7 c (a .0)), (b .0, b .1))
+    (ltb-false (lastClient profile) c (a .0), (b .0, b .1))
+  where
+    some-row : (b : Bool) → 0 < cond b 32 5
+    some-row true = omega arith
+    some-row false = omega arith
+
+-- "clients 0–7"
+pub last-below : (profile : ℕ) → lastClient profile < 8
+last-below profile = go (single profile)
+  where
+    go : (b : Bool) → cond b 0 7 < 8
+    go true = omega arith
+    go false = omega arith
+
+pub client-fits : (profile : ℕ) (refused : Bool) (c rest : ℕ) → clientDeclined profile refused c rest ≡ 0 → (c < 8) × ((refused ≡ false) × (rest ≡ 0))
+client-fits profile refused c rest e = let a = client-last profile refused c rest e in (omega (arith, a .0, last-below profile), a .1)
 
 pub rows-behind : (before rest : ℕ) → rowsBehind before rest ≡ 0 → (before ≡ 0) × (rest ≡ 0)
 rows-behind zero rest e = (refl, e)
@@ -117,6 +136,14 @@ by-superseding P sheet s j r newer older = go (supersedes (r .time) (storedOf s 
     go : (b : Bool) → supersedes (r .time) (storedOf s j) ≡ b → P (cond b (readingStored sheet s j r) (sendsOnly s []))
     go true e = newer e
     go false e = older e
+
+-- each delivery of a connect
+pub connect-each : (P : Delivery → Type 0) (sheet : Sheet) (s : State) (c : ℕ) (address : List ℕ) → (single (sheet .profile) ≡ true → connected s c ≡ true → P (to c (displaced address)))
+    → P (to c (versionConnect (protocolArgs (sheet .profile)))) → P (to c (versionConnect (deviceArgs sheet))) → Each P (toOthers s c (clientConnected address)) → Each P (connectSends sheet s c address)
+unfolding connectSends
+connect-each P sheet s c address gone protocol device others = cond-cases (Each P) (single (sheet .profile)) _ _
+    (λ e. each-append P (oneIf (connected s c) (to c (displaced address))) (greeting sheet c) (each-one P (connected s c) (to c (displaced address)) (gone e)) (protocol, (device, tt)))
+    (λ _. (protocol, (device, others)))
 
 -- the name of a request in the table
 abbrev pub nameFor : Request → List ℕ
@@ -251,6 +278,19 @@ by-sampling P yes-case no-case r = go (same (nameFor r) (nameFor SensorSampling)
     go true e = subst P (sym (names-apart r SensorSampling (same-true (nameFor r) (nameFor SensorSampling) e))) yes-case
     go false e = no-case r e
 
+-- a request is a halt, a restart, or has another name
+pub by-ending : (P : Request → Type 0) → P Halt → P Restart → ((r : Request) → (same (nameFor r) (nameFor Halt) || same (nameFor r) (nameFor Restart)) ≡ false → P r) → (r : Request) → P r
+by-ending P halt restart other ClientList = other ClientList refl
+by-ending P halt restart other Halt = halt
+by-ending P halt restart other Help = other Help refl
+by-ending P halt restart other LogLevel = other LogLevel refl
+by-ending P halt restart other Restart = restart
+by-ending P halt restart other SensorList = other SensorList refl
+by-ending P halt restart other SensorSampling = other SensorSampling refl
+by-ending P halt restart other SensorValue = other SensorValue refl
+by-ending P halt restart other VersionList = other VersionList refl
+by-ending P halt restart other Watchdog = other Watchdog refl
+
 -- a connect of client a is a connect
 pub connect-only : (P : Action → Type 0) (a : ℕ) → ((c : ℕ) (address : List ℕ) → eqb c a ≡ true → P (Connect c address)) → (action : Action) → isConnect a action ≡ true → P action
 connect-only P a connect (Connect c address) e = connect c address e
@@ -265,6 +305,7 @@ pub record Asking (s : State) (c : ℕ) (line : List ℕ) (r : Request) (m : Mes
   pub client : c < 8
   pub there : connected s c ≡ true
   pub request : IsRequest line r m
+  pub shown : hidden (s .sheet .profile) r ≡ false
   pub counted : countFits r (length (m .args)) ≡ true
   pub arguments : argumentsDeclined (s .sheet) r m ≡ 0
 
@@ -275,12 +316,12 @@ unfolding actionDeclined lineDeclined lineWork
 by-asking P s c line d nothing asks = go (asked line) refl (fits .1 .1)
   where
     fits : (c < 8) × ((not (connected s c) ≡ false) × (lineDeclined (s .sheet) (asked line) ≡ 0))
-    fits = client-fits (not (connected s c)) c (lineDeclined (s .sheet) (asked line)) d
+    fits = client-fits (s .sheet .profile) (not (connected s c)) c (lineDeclined (s .sheet) (asked line)) d
 
     go : (w : Asked) → asked line ≡ w → lineDeclined (s .sheet) w ≡ 0 → P (lineWork (s .sheet) s c w)
     go Nothing e z = nothing
     go NotMessage e z = nothing
     go Reply e z = nothing
     go (Unknown m) e z = nothing
-    go (Asks r m) e z = let q = passed (not (countFits r (length (m .args)))) 15 (argumentsDeclined (s .sheet) r m) (omega arith) z in
-        asks r m (record { client = fits .0; there = not-false (connected s c) (fits .1 .0); request = asks-is line r m e; counted = not-false (countFits r (length (m .args))) (q .0); arguments = q .1 })
+    go (Asks r m) e z = let p = passed (hidden (s .sheet .profile) r) 14 _ (omega arith) z in let q = passed (not (countFits r (length (m .args)))) 15 (argumentsDeclined (s .sheet) r m) (omega arith) (p .1) in
+        asks r m (record { client = fits .0; there = not-false (connected s c) (fits .1 .0); request = asks-is line r m e; shown = p .0; counted = not-false (countFits r (length (m .args))) (q .0); arguments = q .1 })

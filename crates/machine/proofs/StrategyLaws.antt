@@ -23,8 +23,8 @@ use Rattle.machine.specs.Sheet.{sensorOf}
 use Rattle.machine.specs.State.{connected, pairOf, present, noSubscription, blankClient, clientAt, withClock, withReading}
 use Rattle.machine.specs.Range.{isNone}
 use Rattle.machine.specs.Report.{Work, visit, dueAt, reported}
-use Rattle.machine.specs.Requests.{Asked, Nothing, NotMessage, Reply, Unknown, Asks, asked, listed, strategyAsked, sampled, sampledPairs, answer}
-use Rattle.machine.specs.Declined.{Action, Connect, Disconnect, Tick, Reading, Log, Line, Call, callOf, actionDeclined, lineDeclined, countFits, declined}
+use Rattle.machine.specs.Requests.{Asked, Nothing, NotMessage, Reply, Unknown, Asks, asked, hidden, listed, strategyAsked, sampled, sampledPairs, answer}
+use Rattle.machine.specs.Declined.{Action, Connect, Disconnect, Tick, Reading, Log, Line, Call, callOf, actionDeclined, argumentsDeclined, lineDeclined, countFits, declined}
 use Rattle.machine.specs.Machine.{Effect, perform, lineWork, step, storedGiven}
 use Rattle.machine.specs.TwoDevices.{after, connects, isConnect, names, strategyIn, strategyAfter, strategyOf}
 use Rattle.machine.proofs.TestLaws.{cond-ap, cond-same, passed, eqb-sym}
@@ -36,6 +36,7 @@ use Rattle.machine.proofs.AnsweredLaws.{asksFor, sampling-ok}
 use Rattle.machine.proofs.GrantedLaws.{granted-is}
 use Rattle.machine.proofs.ListLaws.{opened-alone, sheet-is, sent-packets, connect-pair}
 use Rattle.machine.proofs.NextLaws.{answer-next}
+use Rattle.machine.specs.Opening.{Start}
 
 unset : {A : Type 0} (b : Bool) (x y : A) → y ≡ cond (b && false) x y
 unset true x y = refl
@@ -91,7 +92,7 @@ module _ (s : State) (a j : ℕ) (ha : a < 8) (hj : j < 32) where
       → strategyNow a j (lineWork (s .sheet) s c (asked line) .next)
       ≡ cond (eqb c a && asksFor SensorSampling (asked line)) (strategyIn (s .sheet) j (parse line) (strategyNow a j s)) (strategyNow a j s)
   unfolding lineWork actionDeclined lineDeclined
-  line-strategy c line d on = go (asked line) refl on (client-fits (not (connected s c)) c (lineDeclined (s .sheet) (asked line)) d .1 .1)
+  line-strategy c line d on = go (asked line) refl on (client-fits (s .sheet .profile) (not (connected s c)) c (lineDeclined (s .sheet) (asked line)) d .1 .1)
     where
       go : (w : Asked) → asked line ≡ w → connected (lineWork (s .sheet) s c w .next) a ≡ true → lineDeclined (s .sheet) w ≡ 0
           → strategyNow a j (lineWork (s .sheet) s c w .next) ≡ cond (eqb c a && asksFor SensorSampling w) (strategyIn (s .sheet) j (parse line) (strategyNow a j s)) (strategyNow a j s)
@@ -99,7 +100,7 @@ module _ (s : State) (a j : ℕ) (ha : a < 8) (hj : j < 32) where
       go NotMessage e on z = unset (eqb c a) _ (strategyNow a j s)
       go Reply e on z = unset (eqb c a) _ (strategyNow a j s)
       go (Unknown m) e on z = unset (eqb c a) _ (strategyNow a j s)
-      go (Asks r m) e on z = answer-strategy c r m (not-false (countFits r (length (m .args))) (passed (not (countFits r (length (m .args)))) 15 _ (omega arith) z .0)) on
+      go (Asks r m) e on z = answer-strategy c r m (not-false (countFits r (length (m .args))) (passed (not (countFits r (length (m .args)))) 15 (argumentsDeclined (s .sheet) r m) (omega arith) (passed (hidden (s .sheet .profile) r) 14 _ (omega arith) z .1) .0)) on
           ∙ ap (λ p. cond (eqb c a && same (nameFor r) (nameFor SensorSampling)) (strategyIn (s .sheet) j p (strategyNow a j s)) (strategyNow a j s)) (sym (asks-is line r m e .parsed))
 
 -- the strategy that a call gives, where it is carried out
@@ -155,10 +156,10 @@ module _ (s : State) (a j : ℕ) (ha : a < 8) (hj : j < 32) where
       go z on false e = perform-strategy (call .action) (accepted s call z .fits) e on
           ∙ ap (strategyGiven s a j (call .action)) (ih (perform-kept s (range-out s (accepted s call z .in-range)) a j ha hj (call .action) (accepted s call z .fits) e on .before))
 
-module _ (a j : ℕ) (ha : a < 8) (hj : j < 32) (bytes : List ℕ) where
-  pub strategy-is : (h : List Call) → connected (after bytes h) a ≡ true → pairOf (after bytes h) a j .strategy ≡ strategyOf bytes a j h
+module _ (a j : ℕ) (ha : a < 8) (hj : j < 32) (start : Start) where
+  pub strategy-is : (h : List Call) → connected (after start h) a ≡ true → pairOf (after start h) a j .strategy ≡ strategyOf start a j h
   unfolding after strategyOf
-  strategy-is [] on = absurd (true≢false (sym on ∙ opened-alone bytes a))
-  strategy-is (call ∷ h) on = strategy-step (after bytes h) a j ha hj call (strategyOf bytes a j h) (strategy-is h) on
-      ∙ ap (cond (connects bytes a h call) None) (sym (after-is (after bytes h) a j ha hj (call .action) (call .lent) (strategyOf bytes a j h))
-      ∙ ap₂ (λ sheet ps. strategyAfter sheet a j (call .action) ps (strategyOf bytes a j h)) (sheet-is bytes h) (sym (sent-packets bytes a h call)))
+  strategy-is [] on = absurd (true≢false (sym on ∙ opened-alone start a))
+  strategy-is (call ∷ h) on = strategy-step (after start h) a j ha hj call (strategyOf start a j h) (strategy-is h) on
+      ∙ ap (cond (connects start a h call) None) (sym (after-is (after start h) a j ha hj (call .action) (call .lent) (strategyOf start a j h))
+      ∙ ap₂ (λ sheet ps. strategyAfter sheet a j (call .action) ps (strategyOf start a j h)) (sheet-is start h) (sym (sent-packets start a h call)))

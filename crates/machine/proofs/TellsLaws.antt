@@ -18,6 +18,7 @@ use Rattle.machine.specs.declared.Subscription.{Subscription}
 use Rattle.machine.specs.Places.{Each, joined}
 use Rattle.machine.specs.Sheet.{sensorOf}
 use Rattle.machine.specs.State.{connected, present, pairOf}
+use Rattle.machine.specs.Opening.{Start}
 use Rattle.machine.specs.Declined.{Call}
 use Rattle.machine.specs.Machine.{step}
 use Rattle.machine.specs.Reader.{Told, Impossible, news, View, viewAfter, viewBy, noView, viewOf, standing, toldOf}
@@ -80,62 +81,62 @@ good-tells n clock x p g = record {
     same r true e = Option·some-injective (toldOf n (p .time) (p .sample)) r e
     same r false e = absurd (none-some r e)
 
-pub sheet-rules : (bytes : List ℕ) → Sensors (sheetOf bytes)
-sheet-rules bytes = sensors-out (sheetOf bytes) (opened-range bytes .sensors-in)
+pub sheet-rules : (start : Start) → Sensors (sheetOf start)
+sheet-rules start = sensors-out (sheetOf start) (opened-range start .sensors-in)
 
-module _ (bytes : List ℕ) (a : ℕ) (h : List Call) where
-  pub well : Each WellFormed (messagesOf bytes a h)
-  well = each-message WellFormed bytes a (λ h call. sent-well-formed (after bytes h) call) h
+module _ (start : Start) (a : ℕ) (h : List Call) where
+  pub well : Each WellFormed (messagesOf start a h)
+  well = each-message WellFormed start a (λ h call. sent-well-formed (after start h) call) h
 
-  possible : Each (λ m. news (sheetOf bytes) m ≡ Impossible → ⊥) (messagesOf bytes a h)
-  possible = each-message (λ m. news (sheetOf bytes) m ≡ Impossible → ⊥) bytes a
-      (λ h call. subst (λ sheet. Each (λ (e : Delivery). news sheet (e .message) ≡ Impossible → ⊥) (step (after bytes h) call .sent)) (sheet-is bytes h) (never-impossible (after bytes h) call))
+  possible : Each (λ m. news (sheetOf start) m ≡ Impossible → ⊥) (messagesOf start a h)
+  possible = each-message (λ m. news (sheetOf start) m ≡ Impossible → ⊥) start a
+      (λ h call. subst (λ sheet. Each (λ (e : Delivery). news sheet (e .message) ≡ Impossible → ⊥) (step (after start h) call .sent)) (sheet-is start h) (never-impossible (after start h) call))
       h
 
-  module _ (c : connectedAtEnd bytes a h ≡ true) where
+  module _ (c : connectedAtEnd start a h ≡ true) where
     small : a < 8
-    small = at-end-small bytes a h c
+    small = at-end-small start a h c
 
-    pub on : connected (after bytes h) a ≡ true
-    on = connected-is bytes a small h ∙ c
+    pub on : connected (after start h) a ≡ true
+    on = connected-is start a small h ∙ c
 
-    module _ (j : ℕ) (hs : j < sheetOf bytes .count) where
+    module _ (j : ℕ) (hs : j < sheetOf start .count) where
       hj : j < 32
-      hj = omega (arith, sheet-rules bytes .count-most)
+      hj = omega (arith, sheet-rules start .count-most)
 
-      pub view-held : standing (sheetOf bytes) (after bytes h) a j ≡ viewBy (sheetOf bytes) j (messagesOf bytes a h) noView
-      view-held = heard-is a j small hj bytes h on
+      pub view-held : standing (sheetOf start) (after start h) a j ≡ viewBy (sheetOf start) j (messagesOf start a h) noView
+      view-held = heard-is a j small hj start h on
 
-      pub strategy-held : pairOf (after bytes h) a j .strategy ≡ strategyOf bytes a j h
-      strategy-held = strategy-is a j small hj bytes h on
+      pub strategy-held : pairOf (after start h) a j .strategy ≡ strategyOf start a j h
+      strategy-held = strategy-is a j small hj start h on
 
-      pub report-held : standing (sheetOf bytes) (after bytes h) a j .last ≡ lastReport (sheetOf bytes) j (linesOf bytes a h)
-      report-held = ap (λ (v : View). v .last) view-held ∙ (last-is (sheetOf bytes) j (messagesOf bytes a h) noView well possible
-          ∙ (later-none (lastReport (sheetOf bytes) j (map line (messagesOf bytes a h))) ∙ ap (lastReport (sheetOf bytes) j) (sym (lines-are bytes a h))))
+      pub report-held : standing (sheetOf start) (after start h) a j .last ≡ lastReport (sheetOf start) j (linesOf start a h)
+      report-held = ap (λ (v : View). v .last) view-held ∙ (last-is (sheetOf start) j (messagesOf start a h) noView well possible
+          ∙ (later-none (lastReport (sheetOf start) j (map line (messagesOf start a h))) ∙ ap (lastReport (sheetOf start) j) (sym (lines-are start a h))))
 
-      pub reading-held : present (after bytes h) j ≡ readingAt bytes j h
-      reading-held = stored-by bytes j hj hs h .sample-is
+      pub reading-held : present (after start h) j ≡ readingAt start j h
+      reading-held = stored-by start j hj hs h .sample-is
 
-      file-held : fileView (sheetOf bytes) j (linesOf bytes a h) ≡ standing (sheetOf bytes) (after bytes h) a j
-      file-held = ap (fileView (sheetOf bytes) j) (lines-are bytes a h) ∙ (view-lines (sheetOf bytes) j (messagesOf bytes a h) noView well ∙ sym view-held)
+      file-held : fileView (sheetOf start) j (linesOf start a h) ≡ standing (sheetOf start) (after start h) a j
+      file-held = ap (fileView (sheetOf start) j) (lines-are start a h) ∙ (view-lines (sheetOf start) j (messagesOf start a h) noView well ∙ sym view-held)
 
-      state-tells : ViewTells (sensorOf (sheetOf bytes) j) (standing (sheetOf bytes) (after bytes h) a j) (after bytes h .clock) (present (after bytes h) j)
-      state-tells = good-tells (sensorOf (sheetOf bytes) j) (after bytes h .clock) (present (after bytes h) j) (pairOf (after bytes h) a j) (good a j small hj bytes hs h on)
+      state-tells : ViewTells (sensorOf (sheetOf start) j) (standing (sheetOf start) (after start h) a j) (after start h .clock) (present (after start h) j)
+      state-tells = good-tells (sensorOf (sheetOf start) j) (after start h .clock) (present (after start h) j) (pairOf (after start h) a j) (good a j small hj start hs h on)
 
-      tells-at : TellsAt bytes a h j
+      tells-at : TellsAt start a h j
       tells-at = record {
         strategy-told = ap (λ (v : View). v .strategy) file-held ∙ strategy-held;
         report-told = ap (λ (v : View). v .last) file-held ∙ report-held;
-        reading-told = rw (file-held, ← clock-is bytes h, ← reading-held) state-tells;
+        reading-told = rw (file-held, ← clock-is start h, ← reading-held) state-tells;
       }
 
 -- what a file tells at the end
 pub tells : Tells
-tells bytes a h c j hs = tells-at bytes a h c j hs
+tells start a h c j hs = tells-at start a h c j hs
 
 -- what a file's bytes give back
 pub file-cut : FileCut
 file-cut = record {
-  whole-file = λ bytes a h. ap (λ ls. wholeLines (joined ls)) (lines-are bytes a h) ∙ (whole-lines (messagesOf bytes a h) (well bytes a h) ∙ sym (lines-are bytes a h));
-  cut-off = λ bytes a h n. subst (λ ls. (rest : List (List ℕ)) × (ls ≡ wholeLines (take n (joined ls)) ++ rest)) (sym (lines-are bytes a h)) (cut-lines (messagesOf bytes a h) (well bytes a h) n);
+  whole-file = λ start a h. ap (λ ls. wholeLines (joined ls)) (lines-are start a h) ∙ (whole-lines (messagesOf start a h) (well start a h) ∙ sym (lines-are start a h));
+  cut-off = λ start a h n. subst (λ ls. (rest : List (List ℕ)) × (ls ≡ wholeLines (take n (joined ls)) ++ rest)) (sym (lines-are start a h)) (cut-lines (messagesOf start a h) (well start a h) n);
 }

@@ -25,6 +25,7 @@ use Rattle.machine.proofs.ArchiveLaws.{lines-are}
 use Rattle.machine.proofs.TellsLaws.{sheet-rules, well, view-held, strategy-held, report-held, reading-held, tells}
 use Rattle.machine.proofs.SampleRange.{valid-is}
 use Rattle.machine.proofs.RangeLaws.{none-is}
+use Rattle.machine.specs.Opening.{Start}
 
 -- Two readings known from one report.
 
@@ -80,60 +81,60 @@ unless-none n st passed x y h = go (isNone st) refl
 
 -- One device.
 
-module _ (bytes : List ℕ) (d : Device) (c : archiveConnected bytes d ≡ true) (j : ℕ) (h : j < sheetOf bytes .count) where
-  holds : Holds bytes d j
+module _ (start : Start) (d : Device) (c : archiveConnected start d ≡ true) (j : ℕ) (h : j < sheetOf start .count) where
+  holds : Holds start d j
   holds = record {
-    strategy-held = strategy-held bytes (d .archive) (history bytes d) c j h;
-    report-held = report-held bytes (d .archive) (history bytes d) c j h;
-    reading-held = reading-held bytes (d .archive) (history bytes d) c j h;
-    time-held = stored-by bytes j (omega (arith, sheet-rules bytes .count-most)) h (history bytes d) .time-is;
-    clock-held = clock-is bytes (history bytes d);
+    strategy-held = strategy-held start (d .archive) (history start d) c j h;
+    report-held = report-held start (d .archive) (history start d) c j h;
+    reading-held = reading-held start (d .archive) (history start d) c j h;
+    time-held = stored-by start j (omega (arith, sheet-rules start .count-most)) h (history start d) .time-is;
+    clock-held = clock-is start (history start d);
   }
 
   -- what the archive knows
-  knows : isNone (strategy bytes d j) ≡ false → (r : Told) × ((report bytes d j ≡ some r)
-      × Known (sensorOf (sheetOf bytes) j) (clock bytes d) (reading bytes d j) (strategy bytes d j) r)
+  knows : isNone (strategy start d j) ≡ false → (r : Told) × ((report start d j ≡ some r)
+      × Known (sensorOf (sheetOf start) j) (clock start d) (reading start d j) (strategy start d j) r)
   knows e = let r = t .reading-told .was-reported (ap isNone (t .strategy-told) ∙ e) in
-      (r .0, (sym (t .report-told) ∙ r .1, subst (λ st. Known (sensorOf (sheetOf bytes) j) (clock bytes d) (reading bytes d j) st (r .0)) (t .strategy-told) (t .reading-told .tells (r .0) (r .1) (clock bytes d) (omega arith))))
+      (r .0, (sym (t .report-told) ∙ r .1, subst (λ st. Known (sensorOf (sheetOf start) j) (clock start d) (reading start d j) st (r .0)) (t .strategy-told) (t .reading-told .tells (r .0) (r .1) (clock start d) (omega arith))))
     where
-      t : TellsAt bytes (d .archive) (history bytes d) j
-      t = tells bytes (d .archive) (history bytes d) c j h
+      t : TellsAt start (d .archive) (history start d) j
+      t = tells start (d .archive) (history start d) c j h
 
 -- "The state a list ends with holds .."
 pub held : Held
-held bytes d c j h = holds bytes d c j h
+held start d c j h = holds start d c j h
 
 -- the reader is right
 pub viewed : Viewed
-viewed bytes d c j h = sym (view-held bytes (d .archive) (history bytes d) c j h)
+viewed start d c j h = sym (view-held start (d .archive) (history start d) c j h)
 
 -- demand 3
 pub two-devices : TwoDevices
-two-devices bytes d e cd ce f = (same, shared)
+two-devices start d e cd ce f = (same, shared)
   where
-    same : messages bytes d ≡ messages bytes e
-    same = file-apart _ _ (well bytes (d .archive) (history bytes d)) (well bytes (e .archive) (history bytes e))
-        (sym (ap joined (lines-are bytes (d .archive) (history bytes d))) ∙ (f ∙ ap joined (lines-are bytes (e .archive) (history bytes e))))
+    same : messages start d ≡ messages start e
+    same = file-apart _ _ (well start (d .archive) (history start d)) (well start (e .archive) (history start e))
+        (sym (ap joined (lines-are start (d .archive) (history start d))) ∙ (f ∙ ap joined (lines-are start (e .archive) (history start e))))
 
-    lines : linesOf bytes (d .archive) (history bytes d) ≡ linesOf bytes (e .archive) (history bytes e)
-    lines = lines-are bytes (d .archive) (history bytes d) ∙ (ap (map line) same ∙ sym (lines-are bytes (e .archive) (history bytes e)))
+    lines : linesOf start (d .archive) (history start d) ≡ linesOf start (e .archive) (history start e)
+    lines = lines-are start (d .archive) (history start d) ∙ (ap (map line) same ∙ sym (lines-are start (e .archive) (history start e)))
 
-    reports : (j : ℕ) → report bytes d j ≡ report bytes e j
-    reports j = ap (lastReport (sheetOf bytes) j) lines
+    reports : (j : ℕ) → report start d j ≡ report start e j
+    reports j = ap (lastReport (sheetOf start) j) lines
 
-    strategies : (j : ℕ) → j < sheetOf bytes .count → strategy bytes d j ≡ strategy bytes e j
-    strategies j h = sym (tells bytes (d .archive) (history bytes d) cd j h .strategy-told)
-        ∙ (ap (λ ls. fileView (sheetOf bytes) j ls .strategy) lines ∙ tells bytes (e .archive) (history bytes e) ce j h .strategy-told)
+    strategies : (j : ℕ) → j < sheetOf start .count → strategy start d j ≡ strategy start e j
+    strategies j h = sym (tells start (d .archive) (history start d) cd j h .strategy-told)
+        ∙ (ap (λ ls. fileView (sheetOf start) j ls .strategy) lines ∙ tells start (e .archive) (history start e) ce j h .strategy-told)
 
-    shared : (j : ℕ) → j < sheetOf bytes .count → Shared bytes d e j
+    shared : (j : ℕ) → j < sheetOf start .count → Shared start d e j
     shared j h = record {
       same-strategy = strategies j h;
       same-report = reports j;
-      was-reported = λ q. let k = knows bytes d cd j h q in (k .0, k .1 .0);
-      alike = unless-none (sensorOf (sheetOf bytes) j) (strategy bytes d j)
-          (λ s. Passed s (clock bytes d) (report bytes d j) × Passed s (clock bytes e) (report bytes e j)) (reading bytes d j) (reading bytes e j)
-          (λ q. let k = knows bytes d cd j h q in let l = knows bytes e ce j h (ap isNone (sym (strategies j h)) ∙ q) in
-          alike-both (sensorOf (sheetOf bytes) j) (clock bytes d) (clock bytes e) (reading bytes d j) (reading bytes e j)
-          (strategy bytes d j) (strategy bytes e j) (report bytes d j) (report bytes e j) (k .0) (l .0)
+      was-reported = λ q. let k = knows start d cd j h q in (k .0, k .1 .0);
+      alike = unless-none (sensorOf (sheetOf start) j) (strategy start d j)
+          (λ s. Passed s (clock start d) (report start d j) × Passed s (clock start e) (report start e j)) (reading start d j) (reading start e j)
+          (λ q. let k = knows start d cd j h q in let l = knows start e ce j h (ap isNone (sym (strategies j h)) ∙ q) in
+          alike-both (sensorOf (sheetOf start) j) (clock start d) (clock start e) (reading start d j) (reading start e j)
+          (strategy start d j) (strategy start e j) (report start d j) (report start e j) (k .0) (l .0)
           (strategies j h) (reports j) (k .1 .0) (l .1 .0) (k .1 .1) (l .1 .1));
     }

@@ -16,9 +16,11 @@ use Rattle.machine.specs.Others.{ofOthers, isNamedAs, linesEver, sentEve
 use Rattle.machine.proofs.PlacesLaws.{each-append, only-append}
 use Rattle.machine.proofs.HeardLaws.{sent-append}
 use Rattle.machine.proofs.FileLaws.{line-parses}
-use Rattle.machine.proofs.ArchiveLaws.{lines-packed, each-to}
+use Rattle.machine.proofs.HeardLaws.{each-to}
+use Rattle.machine.proofs.ArchiveLaws.{lines-packed}
 use Rattle.machine.proofs.ListLaws.{sent-packets}
 use Rattle.machine.proofs.Sent.{sent-well-formed}
+use Rattle.machine.specs.Opening.{Start}
 
 -- a message in which others do not show
 abbrev pub own : Message → Bool
@@ -78,32 +80,32 @@ only-lines is (m ∷ ms) w = ap (λ p. cond (isNamedAs is p) (line m ∷ only (n
     go true h = ap (λ t. line m ∷ t) h
     go false h = h
 
-module _ (bytes : List ℕ) (a : ℕ) where
-  ever-well-formed : (h : List Call) → Each WellFormed (sentEver bytes a h)
+module _ (start : Start) (a : ℕ) where
+  ever-well-formed : (h : List Call) → Each WellFormed (sentEver start a h)
   unfolding sentEver
   ever-well-formed [] = tt
-  ever-well-formed (call ∷ h) = each-append WellFormed (sentEver bytes a h) _ (ever-well-formed h) (each-to WellFormed a (step (after bytes h) call .sent) (sent-well-formed (after bytes h) call))
+  ever-well-formed (call ∷ h) = each-append WellFormed (sentEver start a h) _ (ever-well-formed h) (each-to WellFormed a (step (after start h) call .sent) (sent-well-formed (after start h) call))
 
-  ever-lines : (h : List Call) → linesEver bytes a h ≡ map line (sentEver bytes a h)
+  ever-lines : (h : List Call) → linesEver start a h ≡ map line (sentEver start a h)
   unfolding linesEver sentEver
   ever-lines [] = refl
-  ever-lines (call ∷ h) = ap₂ _++_ (ever-lines h) (ap (linesTo a) (sent-packets bytes a h call) ∙ lines-packed a (step (after bytes h) call .sent)) ∙ sym (map-append line (sentEver bytes a h) _)
+  ever-lines (call ∷ h) = ap₂ _++_ (ever-lines h) (ap (linesTo a) (sent-packets start a h call) ∙ lines-packed a (step (after start h) call .sent)) ∙ sym (map-append line (sentEver start a h) _)
 
-  pub ever-named : (is : List ℕ → Bool) (h : List Call) → only (named is) (linesEver bytes a h) ≡ map line (only (λ (m : Message). is (m .name)) (sentEver bytes a h))
-  ever-named is h = ap (only (named is)) (ever-lines h) ∙ only-lines is (sentEver bytes a h) (ever-well-formed h)
+  pub ever-named : (is : List ℕ → Bool) (h : List Call) → only (named is) (linesEver start a h) ≡ map line (only (λ (m : Message). is (m .name)) (sentEver start a h))
+  ever-named is h = ap (only (named is)) (ever-lines h) ∙ only-lines is (sentEver start a h) (ever-well-formed h)
 
   -- what client a is told over a list of calls
   unfoldable pub toldEver : List Call → List Message
-  toldEver h = only own (sentEver bytes a h)
+  toldEver h = only own (sentEver start a h)
 
   pub ever-none : toldEver [] ≡ []
   unfolding toldEver sentEver only
   ever-none = refl
 
-  pub ever-more : (h : List Call) (call : Call) → toldEver (call ∷ h) ≡ toldEver h ++ toldTo a (step (after bytes h) call .sent)
+  pub ever-more : (h : List Call) (call : Call) → toldEver (call ∷ h) ≡ toldEver h ++ toldTo a (step (after start h) call .sent)
   unfolding toldEver sentEver toldTo
-  ever-more h call = only-append own (sentEver bytes a h) (sentTo a (step (after bytes h) call .sent))
+  ever-more h call = only-append own (sentEver start a h) (sentTo a (step (after start h) call .sent))
 
-  pub ever-told : (h : List Call) → only (named (λ name. not (ofOthers name))) (linesEver bytes a h) ≡ map line (toldEver h)
+  pub ever-told : (h : List Call) → only (named (λ name. not (ofOthers name))) (linesEver start a h) ≡ map line (toldEver h)
   unfolding toldEver
   ever-told h = ever-named (λ name. not (ofOthers name)) h

@@ -14,7 +14,8 @@ use Rattle.machine.specs.declared.Request.the-variants.{Halt, Restart}
 use Rattle.machine.specs.Places.{Each}
 use Rattle.machine.specs.State.{blank}
 use Rattle.machine.specs.Range.{inRange}
-use Rattle.machine.specs.Opening.{opened}
+use Rattle.machine.specs.Sheet.{lastClient}
+use Rattle.machine.specs.Opening.{Start, opened}
 use Rattle.machine.specs.Messages.{levelText}
 use Rattle.machine.specs.Requests.{Asks, asked}
 use Rattle.machine.specs.Declined.{Connect, Line, Call, callOf, addressFits}
@@ -43,25 +44,25 @@ NeverImpossible = (s : State) (call : Call)
 
 -- what the reader makes of an archive's messages is what the state holds that the list ends with
 abbrev pub Viewed : Type 0
-Viewed = (bytes : List ℕ) (d : Device) → archiveConnected bytes d ≡ true → (j : ℕ) → j < sheetOf bytes .count
-    → viewBy (sheetOf bytes) j (messages bytes d) noView ≡ standing (sheetOf bytes) (final bytes d) (d .archive) j
+Viewed = (start : Start) (d : Device) → archiveConnected start d ≡ true → (j : ℕ) → j < sheetOf start .count
+    → viewBy (sheetOf start) j (messages start d) noView ≡ standing (sheetOf start) (final start d) (d .archive) j
 
 -- an opened state is in range, the blank one too; every call keeps a state in range; so number 1 is never given to a state that calls returned
 pub record KeptInRange : Type 0 where
   pub blank-in-range : inRange blank ≡ true
-  pub opened-in-range : (bytes : List ℕ) → inRange (opened bytes .state) ≡ true
+  pub opened-in-range : (start : Start) → inRange (opened start .state) ≡ true
   pub step-in-range : (s : State) → inRange s ≡ true → (call : Call) → inRange (step s call .next) ≡ true
-  pub never-one : (bytes : List ℕ) (h : List Call) (call : Call) → returned bytes h call .number ≡ 1 → ⊥
+  pub never-one : (start : Start) (h : List Call) (call : Call) → returned start h call .number ≡ 1 → ⊥
 
 -- the assumptions of demand 3 can be met: on every sheet that opens, a connect that fits leaves its client connected at the end
 abbrev pub Connectable : Type 0
-Connectable = (bytes : List ℕ) → opened bytes .number ≡ 0 → (c : ℕ) → c < 8 → (address : List ℕ) → addressFits address ≡ true → (lent : List ℕ) → 65536 ≤ length lent
-    → connectedAtEnd bytes c (callOf (Connect c address) lent ∷ []) ≡ true
+Connectable = (start : Start) → opened start .number ≡ 0 → (c : ℕ) → c ≤ lastClient (sheetOf start .profile) → (address : List ℕ) → addressFits address ≡ true → (lent : List ℕ) → 65536 ≤ length lent
+    → connectedAtEnd start c (callOf (Connect c address) lent ∷ []) ≡ true
 
 -- document 02, (e): "A fresh device and a restarted one start at warn.", on every sheet that opens and after every restart that is carried out. A sheet
 -- that does not open gives "level off" as before, and a halt, carried out or declined, keeps the level
 pub record StartsAtWarn : Type 0 where
-  pub opened-level : (bytes : List ℕ) → levelText (opened bytes .state .level) ≡ cond (eqb (opened bytes .number) 0) (text "warn") (text "off")
+  pub opened-level : (start : Start) → levelText (opened start .state .level) ≡ cond (eqb (opened start .number) 0) (text "warn") (text "off")
   pub restarted-level : (s : State) (c : ℕ) (line lent : List ℕ) (m : Message) → asked line ≡ Asks Restart m → step s (callOf (Line c line) lent) .number ≡ 0
       → levelText (step s (callOf (Line c line) lent) .next .level) ≡ text "warn"
   pub halted-level : (s : State) (c : ℕ) (line lent : List ℕ) (m : Message) → asked line ≡ Asks Halt m

@@ -11,6 +11,7 @@ use Rattle.message.specs.Message.{line}
 use Rattle.line.specs.Line.{Parse, malformed, message, parse}
 use Rattle.machine.specs.declared.Sheet.{Sheet}
 use Rattle.machine.specs.Places.{Each, joined}
+use Rattle.machine.specs.Opening.{Start}
 use Rattle.machine.specs.Range.{isNone}
 use Rattle.machine.specs.Messages.{disconnect}
 use Rattle.machine.specs.Declined.{Line, Call, callOf}
@@ -21,16 +22,16 @@ use Rattle.machine.specs.Tells.{lineNews, FileTells, readingAt, connects
 -- A file that is cut.
 
 -- the calls up to the one that gave line k of the archive's file, from 0
-unfoldable pub upToLine : List ℕ → ℕ → ℕ → List Call → List Call
-upToLine bytes a k [] = []
-upToLine bytes a k (call ∷ h) = cond (not (connects bytes a h call) && ltb k (length (linesOf bytes a h))) (upToLine bytes a k h) (call ∷ h)
+unfoldable pub upToLine : Start → ℕ → ℕ → List Call → List Call
+upToLine start a k [] = []
+upToLine start a k (call ∷ h) = cond (not (connects start a h call) && ltb k (length (linesOf start a h))) (upToLine start a k h) (call ∷ h)
 
 -- that call: it is in the list, the archive has not connected since, and the line is one of those that it gave
-pub record GaveLine (bytes : List ℕ) (a k : ℕ) (h later : List Call) (call : Call) (g : List Call) : Type 0 where
+pub record GaveLine (start : Start) (a k : ℕ) (h later : List Call) (call : Call) (g : List Call) : Type 0 where
   pub in-list : h ≡ later ++ (call ∷ g)
-  pub same-connection : connectsIn bytes a later (call ∷ g) ≡ false
-  pub not-before : length (cond (connects bytes a g call) [] (linesOf bytes a g)) ≤ k
-  pub by-then : k < length (linesOf bytes a (call ∷ g))
+  pub same-connection : connectsIn start a later (call ∷ g) ≡ false
+  pub not-before : length (cond (connects start a g call) [] (linesOf start a g)) ≤ k
+  pub by-then : k < length (linesOf start a (call ∷ g))
 
 -- a report
 abbrev pub isReport : News → Bool
@@ -77,9 +78,9 @@ isSamplingOk malformed = false
 isSamplingOk (message m) = isOk (text "sensor-sampling") m
 
 -- what the lines `before` and l tell of sensor j holds at the end of the call that gave l
-abbrev pub HoldsUpTo : List ℕ → ℕ → List Call → List (List ℕ) → List ℕ → ℕ → Type 0
-HoldsUpTo bytes a h before l j = FileTells (sheetOf bytes) j (before ++ (l ∷ []))
-    (clockOf bytes (upToLine bytes a (length before) h)) (readingAt bytes j (upToLine bytes a (length before) h))
+abbrev pub HoldsUpTo : Start → ℕ → List Call → List (List ℕ) → List ℕ → ℕ → Type 0
+HoldsUpTo start a h before l j = FileTells (sheetOf start) j (before ++ (l ∷ []))
+    (clockOf start (upToLine start a (length before) h)) (readingAt start j (upToLine start a (length before) h))
 
 -- `given`: `upToLine` ends with the call that gave the line.
 -- `cut`: what the lines up to l tell holds at the end of the call that gave l, wherever the file is cut behind the lines `seen`, if l leaves nothing open.
@@ -87,13 +88,13 @@ HoldsUpTo bytes a h before l j = FileTells (sheetOf bytes) j (before ++ (l ∷ [
 -- `by-clock`: a line leaves nothing open if it is no sampling reply with `ok`, and the next line that shows a clock shows a later one than l and every line
 -- before it.
 pub record CutTells : Type 0 where
-  pub given : (bytes : List ℕ) (a k : ℕ) (h : List Call) → connectedAtEnd bytes a h ≡ true → k < length (linesOf bytes a h)
-      → (later : List Call) × ((call : Call) × ((g : List Call) × ((upToLine bytes a k h ≡ call ∷ g) × GaveLine bytes a k h later call g)))
-  pub cut : (bytes : List ℕ) (a : ℕ) (h : List Call) → connectedAtEnd bytes a h ≡ true → (before : List (List ℕ)) (l : List ℕ) (seen unseen : List (List ℕ))
-      → linesOf bytes a h ≡ before ++ (l ∷ (seen ++ unseen)) → leavesOpen (sheetOf bytes) l seen ≡ false → (j : ℕ) → j < sheetOf bytes .count
-      → HoldsUpTo bytes a h before l j
-  pub whole : (bytes : List ℕ) (a : ℕ) (h : List Call) → connectedAtEnd bytes a h ≡ true → (before : List (List ℕ)) (l : List ℕ)
-      → linesOf bytes a h ≡ before ++ (l ∷ []) → (j : ℕ) → j < sheetOf bytes .count → HoldsUpTo bytes a h before l j
+  pub given : (start : Start) (a k : ℕ) (h : List Call) → connectedAtEnd start a h ≡ true → k < length (linesOf start a h)
+      → (later : List Call) × ((call : Call) × ((g : List Call) × ((upToLine start a k h ≡ call ∷ g) × GaveLine start a k h later call g)))
+  pub cut : (start : Start) (a : ℕ) (h : List Call) → connectedAtEnd start a h ≡ true → (before : List (List ℕ)) (l : List ℕ) (seen unseen : List (List ℕ))
+      → linesOf start a h ≡ before ++ (l ∷ (seen ++ unseen)) → leavesOpen (sheetOf start) l seen ≡ false → (j : ℕ) → j < sheetOf start .count
+      → HoldsUpTo start a h before l j
+  pub whole : (start : Start) (a : ℕ) (h : List Call) → connectedAtEnd start a h ≡ true → (before : List (List ℕ)) (l : List ℕ)
+      → linesOf start a h ≡ before ++ (l ∷ []) → (j : ℕ) → j < sheetOf start .count → HoldsUpTo start a h before l j
   pub by-clock : (sheet : Sheet) (before : List (List ℕ)) (l : List ℕ) (seen : List (List ℕ)) (t : ℕ) → isSamplingOk (parse (withoutEnd l)) ≡ false
       → nextClock seen ≡ some t → Each (λ k. (u : ℕ) → lineClock k ≡ some u → u < t) (before ++ (l ∷ [])) → leavesOpen sheet l seen ≡ false
 
@@ -102,9 +103,9 @@ pub record CutTells : Type 0 where
 -- a `halt` or `restart` of client c that is answered `ok` gives an archive that is connected `#disconnect` as its last line; before it stand the lines up to
 -- then, where the archive is connected and all of the above holds, and, if the archive asked itself, the one reply
 abbrev pub LastLine : Type 0
-LastLine = (bytes : List ℕ) (a c : ℕ) (asked lent : List ℕ) (h : List Call) → connectedAtEnd bytes a h ≡ true
-    → endsAll (Line c asked) (packetsOf bytes h (callOf (Line c asked) lent)) ≡ true
-    → (why : List ℕ) × ((replies : List (List ℕ)) × ((linesOf bytes a (callOf (Line c asked) lent ∷ h) ≡ linesOf bytes a h ++ (replies ++ (line (disconnect why) ∷ [])))
+LastLine = (start : Start) (a c : ℕ) (asked lent : List ℕ) (h : List Call) → connectedAtEnd start a h ≡ true
+    → endsAll (Line c asked) (packetsOf start h (callOf (Line c asked) lent)) ≡ true
+    → (why : List ℕ) × ((replies : List (List ℕ)) × ((linesOf start a (callOf (Line c asked) lent ∷ h) ≡ linesOf start a h ++ (replies ++ (line (disconnect why) ∷ [])))
     × (length replies ≡ cond (eqb c a) 1 0)))
 
 -- The file's bytes.
@@ -122,6 +123,6 @@ wholeLines (b ∷ s) = cond (eqb b 10) ((10 ∷ []) ∷ wholeLines s) (startWith
 -- `whole-file`: the bytes of a file, its lines one after another, give its lines back.
 -- `cut-off`: of the first n bytes the whole lines are a start of the file's lines.
 pub record FileCut : Type 0 where
-  pub whole-file : (bytes : List ℕ) (a : ℕ) (h : List Call) → wholeLines (joined (linesOf bytes a h)) ≡ linesOf bytes a h
-  pub cut-off : (bytes : List ℕ) (a : ℕ) (h : List Call) (n : ℕ)
-      → (rest : List (List ℕ)) × (linesOf bytes a h ≡ wholeLines (take n (joined (linesOf bytes a h))) ++ rest)
+  pub whole-file : (start : Start) (a : ℕ) (h : List Call) → wholeLines (joined (linesOf start a h)) ≡ linesOf start a h
+  pub cut-off : (start : Start) (a : ℕ) (h : List Call) (n : ℕ)
+      → (rest : List (List ℕ)) × (linesOf start a h ≡ wholeLines (take n (joined (linesOf start a h))) ++ rest)

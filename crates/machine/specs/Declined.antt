@@ -21,10 +21,10 @@ use Rattle.machine.specs.declared.Request.{Request}
 use Rattle.machine.specs.declared.Request.the-variants.{ClientList, Halt, Help, LogLevel, Restart, SensorList, SensorSampling, SensorValue, VersionList, Watchdog}
 use Rattle.machine.specs.declared.Found.{Found}
 use Rattle.machine.specs.Places.{any, twice}
-use Rattle.machine.specs.Sheet.{sensorOf, notOnSheet, graphic, printable, nameByte, textFits}
+use Rattle.machine.specs.Sheet.{single, lastClient, sensorOf, notOnSheet, graphic, printable, nameByte, textFits}
 use Rattle.machine.specs.State.{connected}
 use Rattle.machine.specs.Range.{inRange}
-use Rattle.machine.specs.Requests.{Asked, Nothing, NotMessage, Reply, Unknown, Asks, asked, argument, askedPlaces, requestNamed, found, foundNumber, levelOf, listed, kindAsked, parameterCount, byDifference, isBad, parametersOf, strategyMade, shortestOverLongest}
+use Rattle.machine.specs.Requests.{Asked, Nothing, NotMessage, Reply, Unknown, Asks, asked, argument, askedPlaces, requestNamed, hidden, found, foundNumber, levelOf, listed, kindAsked, parameterCount, byDifference, isBad, parametersOf, strategyMade, shortestOverLongest}
 use Rattle.machine.specs.Messages.{refusalEntry, refusalReply}
 
 -- a reading as it arrives: what it says and, in milliseconds, the time that it brings: document 02, (g), "A reading now brings its own time"
@@ -58,11 +58,19 @@ callOf action lent = record { action = action; lent = lent }
 abbrev pub rowsBehind : ℕ → ℕ → ℕ
 rowsBehind before rest = cond (eqb before 0) rest before
 
--- Rows 5 to 11, and 26.
+-- Rows 5 to 11, 26 and 32.
 
--- "client above 7", 5; "connect: connected; else: not connected", 6
-unfoldable pub clientDeclined : Bool → ℕ → ℕ → ℕ
-clientDeclined refused c rest = cond (ltb 7 c) 5 (cond refused 6 rest)
+-- "client above 7", 5; document 02, (m): "32 when a client above 0 is named under profile 1, in 5's place"
+abbrev pub aboveLast : ℕ → ℕ
+aboveLast profile = cond (single profile) 32 5
+
+-- this row; then "connect: connected; else: not connected", 6
+unfoldable pub clientDeclined : ℕ → Bool → ℕ → ℕ → ℕ
+clientDeclined profile refused c rest = cond (ltb (lastClient profile) c) (aboveLast profile) (cond refused 6 rest)
+
+-- whether 6 declines a connect: under profile 1 "6 is not given there"
+abbrev pub connectRefused : ℕ → Bool → Bool
+connectRefused profile there = there && not (single profile)
 
 -- "address text (1–48 bytes 0x21–0x7E)"
 unfoldable pub addressFits : List ℕ → Bool
@@ -109,8 +117,8 @@ abbrev pub sensorsDeclined : Sheet → Message → ℕ
 sensorsDeclined sheet m = placesDeclined sheet (askedPlaces sheet m) 0
 
 -- "help on unknown name", 23
-abbrev pub helpDeclined : Option Request → ℕ
-helpDeclined o = foundNumber 23 (found o)
+abbrev pub helpDeclined : ℕ → Option Request → ℕ
+helpDeclined profile o = foundNumber 23 (found profile o)
 
 -- a list with a strategy: "17, 15 (parameters), 18, 19, 20"; of the places js, with n arguments, ts behind the strategy's word
 unfoldable pub settingDeclined : Sheet → List ℕ → ℕ → ℕ → List (List ℕ) → ℕ
@@ -133,7 +141,7 @@ samplingDeclined sheet m =
 unfoldable pub argumentsDeclined : Sheet → Request → Message → ℕ
 argumentsDeclined sheet ClientList m = 0
 argumentsDeclined sheet Halt m = 0
-argumentsDeclined sheet Help m = cond (eqb (length (m .args)) 0) 0 (helpDeclined (requestNamed (argument m 0)))
+argumentsDeclined sheet Help m = cond (eqb (length (m .args)) 0) 0 (helpDeclined (sheet .profile) (requestNamed (argument m 0)))
 argumentsDeclined sheet LogLevel m = cond (eqb (length (m .args)) 0) 0 (cond (leb 8 (levelOf (argument m 0))) 22 0)
 argumentsDeclined sheet Restart m = 0
 argumentsDeclined sheet SensorList m = sensorsDeclined sheet m
@@ -142,29 +150,33 @@ argumentsDeclined sheet SensorValue m = sensorsDeclined sheet m
 argumentsDeclined sheet VersionList m = 0
 argumentsDeclined sheet Watchdog m = 0
 
--- "line over 2,048 or no message", 12; "reply received", 13; "request unknown", 14; "argument count", 15
+-- "argument count", 15, and what the arguments are declined for
+abbrev pub requestDeclined : Sheet → Request → Message → ℕ
+requestDeclined sheet r m = cond (not (countFits r (length (m .args)))) 15 (argumentsDeclined sheet r m)
+
+-- "line over 2,048 or no message", 12; "reply received", 13; "request unknown", 14
 unfoldable pub lineDeclined : Sheet → Asked → ℕ
 lineDeclined sheet Nothing = 0
 lineDeclined sheet NotMessage = parsedNumber Malformed
 lineDeclined sheet Reply = 13
 lineDeclined sheet (Unknown m) = foundNumber 14 Found.Unknown
-lineDeclined sheet (Asks r m) = cond (not (countFits r (length (m .args)))) 15 (argumentsDeclined sheet r m)
+lineDeclined sheet (Asks r m) = cond (hidden (sheet .profile) r) (foundNumber 14 Found.Unknown) (requestDeclined sheet r m)
 
 -- the rows from 5 on, "Lower number first"
 unfoldable pub actionDeclined : Sheet → State → Action → ℕ
-actionDeclined sheet s (Connect c address) = clientDeclined (connected s c) c (cond (addressFits address) 0 7)
-actionDeclined sheet s (Disconnect c) = clientDeclined (not (connected s c)) c 0
+actionDeclined sheet s (Connect c address) = clientDeclined (sheet .profile) (connectRefused (sheet .profile) (connected s c)) c (cond (addressFits address) 0 7)
+actionDeclined sheet s (Disconnect c) = clientDeclined (sheet .profile) (not (connected s c)) c 0
 actionDeclined sheet s (Tick t) = cond (tickFits s t) 0 8
 actionDeclined sheet s (Reading j r) = cond (notOnSheet sheet j) 9 (readingDeclined (sensorOf sheet j) (s .clock) r)
 actionDeclined sheet s (Log level logger said) = cond (entryFits level logger said) 0 11
-actionDeclined sheet s (Line c line) = clientDeclined (not (connected s c)) c (lineDeclined sheet (asked line))
+actionDeclined sheet s (Line c line) = clientDeclined (sheet .profile) (not (connected s c)) c (lineDeclined sheet (asked line))
 
 -- "state field out of range", 1; "output under 65,536 bytes", 2; "device halted", 3
 unfoldable pub declined : Sheet → State → Call → ℕ
 declined sheet s call =
     cond (not (inRange s)) 1 (cond (ltb (length (call .lent)) 65536) 2 (cond (s .halted) 3 (actionDeclined sheet s (call .action))))
 
--- What a refusal sends: nothing below 12 and at 26; "12 and 13 go to the sender despite the log level"; from 14 on a reply.
+-- What a refusal sends: nothing below 12, at 26 and at 32; "12 and 13 go to the sender despite the log level"; from 14 on a reply.
 
 -- by what the line asks
 unfoldable pub lineRefusal : ℕ → ℕ → ℕ → Asked → List Delivery
@@ -181,4 +193,4 @@ refusal s n (Disconnect c) = []
 refusal s n (Tick t) = []
 refusal s n (Reading j r) = []
 refusal s n (Log level logger said) = []
-refusal s n (Line c line) = cond (ltb n 12) [] (lineRefusal (s .clock) c n (asked line))
+refusal s n (Line c line) = cond (ltb n 12 || ltb 23 n) [] (lineRefusal (s .clock) c n (asked line))

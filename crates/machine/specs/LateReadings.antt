@@ -8,6 +8,7 @@ use Rattle.output.specs.Text.{text}
 use Rattle.value.specs.declared.Reading.{Reading as Given}
 use Rattle.machine.specs.declared.State.{State}
 use Rattle.machine.specs.Sheet.{sensorOf}
+use Rattle.machine.specs.Opening.{Start}
 use Rattle.machine.specs.State.{storedOf, present}
 use Rattle.machine.specs.Messages.{statusFor, informWith, valueArgs, valueInform}
 use Rattle.machine.specs.Declined.{Arrival, arrival, Reading, Call, callOf, rowsBehind}
@@ -15,14 +16,14 @@ use Rattle.machine.specs.Machine.{Effect, step, storedGiven}
 use Rattle.machine.specs.TwoDevices.{after, sheetOf, returnedZero, packetsOf, superseding, lastReading, sampleFrom, timeFrom, clockOf}
 
 -- a reading of sensor j, behind the calls h, that returned 0 and supersedes the one stored before it
-pub record Newer (bytes : List ℕ) (j : ℕ) (r : Arrival) (lent : List ℕ) (h : List Call) : Type 0 where
-  pub accepted : returnedZero bytes h (callOf (Reading j r) lent) ≡ true
-  pub newer : superseding (r .time) (lastReading bytes j h) ≡ true
+pub record Newer (start : Start) (j : ℕ) (r : Arrival) (lent : List ℕ) (h : List Call) : Type 0 where
+  pub accepted : returnedZero start h (callOf (Reading j r) lent) ≡ true
+  pub newer : superseding (r .time) (lastReading start j h) ≡ true
 
 -- and one that does not: "An older one is accepted"
-pub record Older (bytes : List ℕ) (j : ℕ) (r : Arrival) (lent : List ℕ) (h : List Call) : Type 0 where
-  pub accepted : returnedZero bytes h (callOf (Reading j r) lent) ≡ true
-  pub older : superseding (r .time) (lastReading bytes j h) ≡ false
+pub record Older (start : Start) (j : ℕ) (r : Arrival) (lent : List ℕ) (h : List Call) : Type 0 where
+  pub accepted : returnedZero start h (callOf (Reading j r) lent) ≡ true
+  pub older : superseding (r .time) (lastReading start j h) ≡ false
 
 -- what a call of a reading comes to in a state, with a time of its own
 abbrev pub readingStep : State → ℕ → Given → ℕ → List ℕ → Effect
@@ -44,12 +45,12 @@ pub record LateReadings : Type 0 where
       → (readingStep s j g t lent .sent ≡ []) × (readingStep s j g t lent .next ≡ s)
   pub unknown-yields : (s : State) (j : ℕ) (g : Given) (t : ℕ) (lent : List ℕ) → readingStep s j g t lent .number ≡ 0
       → statusFor (sensorOf (s .sheet) j) (present s j) ≡ 0 → storedOf (readingStep s j g t lent .next) j ≡ storedGiven (sensorOf (s .sheet) j) (arrival g t)
-  pub passed-over : (bytes : List ℕ) (j : ℕ) (r : Arrival) (lent : List ℕ) (h : List Call) → Older bytes j r lent h
-      → (packetsOf bytes h (callOf (Reading j r) lent) ≡ []) × (after bytes (callOf (Reading j r) lent ∷ h) ≡ after bytes h)
-  pub stored : (bytes : List ℕ) (j : ℕ) (r : Arrival) (lent : List ℕ) (h : List Call) → Newer bytes j r lent h
-      → storedOf (after bytes (callOf (Reading j r) lent ∷ h)) j ≡ storedGiven (sensorOf (sheetOf bytes) j) r
-  pub shown : (bytes : List ℕ) (j : ℕ) → j < sheetOf bytes .count → (id : ℕ) (h : List Call) → valueInform id (after bytes h) (sheetOf bytes) j
-      ≡ informWith id (text "sensor-value") (valueArgs (timeFrom (lastReading bytes j h)) (sensorOf (sheetOf bytes) j) (sampleFrom (sensorOf (sheetOf bytes) j) (lastReading bytes j h)))
-  pub never-ahead : (bytes : List ℕ) (j : ℕ) → j < sheetOf bytes .count → (h : List Call) → timeFrom (lastReading bytes j h) ≤ clockOf bytes h
-  pub never-back : (bytes : List ℕ) (j : ℕ) (later h : List Call) → timeFrom (lastReading bytes j h) ≤ timeFrom (lastReading bytes j (later ++ h))
-  pub at-clock : (bytes : List ℕ) (j : ℕ) → j < sheetOf bytes .count → (h : List Call) → superseding (clockOf bytes h) (lastReading bytes j h) ≡ true
+  pub passed-over : (start : Start) (j : ℕ) (r : Arrival) (lent : List ℕ) (h : List Call) → Older start j r lent h
+      → (packetsOf start h (callOf (Reading j r) lent) ≡ []) × (after start (callOf (Reading j r) lent ∷ h) ≡ after start h)
+  pub stored : (start : Start) (j : ℕ) (r : Arrival) (lent : List ℕ) (h : List Call) → Newer start j r lent h
+      → storedOf (after start (callOf (Reading j r) lent ∷ h)) j ≡ storedGiven (sensorOf (sheetOf start) j) r
+  pub shown : (start : Start) (j : ℕ) → j < sheetOf start .count → (id : ℕ) (h : List Call) → valueInform id (after start h) (sheetOf start) j
+      ≡ informWith id (text "sensor-value") (valueArgs (timeFrom (lastReading start j h)) (sensorOf (sheetOf start) j) (sampleFrom (sensorOf (sheetOf start) j) (lastReading start j h)))
+  pub never-ahead : (start : Start) (j : ℕ) → j < sheetOf start .count → (h : List Call) → timeFrom (lastReading start j h) ≤ clockOf start h
+  pub never-back : (start : Start) (j : ℕ) (later h : List Call) → timeFrom (lastReading start j h) ≤ timeFrom (lastReading start j (later ++ h))
+  pub at-clock : (start : Start) (j : ℕ) → j < sheetOf start .count → (h : List Call) → superseding (clockOf start h) (lastReading start j h) ≡ true

@@ -16,4 +16,5 @@ pub mod Cut
 pub mod Others
 pub mod Claims
 pub mod SeveralNames
+pub mod SingleClient
 pub mod Edges

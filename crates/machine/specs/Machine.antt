@@ -1,7 +1,7 @@
 -- Document 01, "Machine": what a call does, what it returns, and what its output holds then.
 use Prim.Native.Nat.{ℕ, zero, suc}
 use mathlib.Core.Bool.{cond}
-use mathlib.Core.List.{List, [], _∷_}
+use mathlib.Core.List.{List, [], _∷_, _++_}
 use lib.Dec.{leb}
 use lib.ListN.{length}
 use Rattle.output.specs.Output.{laid}
@@ -16,9 +16,10 @@ use Rattle.machine.specs.declared.Stored.{Stored}
 use Rattle.machine.specs.declared.State.{State}
 use Rattle.machine.specs.declared.Answer.{Answer}
 use Rattle.machine.specs.declared.Cause.the-variants.{Tick as Ticked, Reading as Read}
-use Rattle.machine.specs.Sheet.{sensorOf}
-use Rattle.machine.specs.State.{storedOf, withClock, withReading, supersedes, withClient, clientAt, blankClient}
-use Rattle.machine.specs.Messages.{versionConnect, protocolArgs, deviceArgs, clientConnected, logEntry, toAll, toOthers}
+use Rattle.machine.specs.Places.{oneIf}
+use Rattle.machine.specs.Sheet.{single, sensorOf}
+use Rattle.machine.specs.State.{connected, storedOf, withClock, withReading, supersedes, withClient, clientAt, blankClient}
+use Rattle.machine.specs.Messages.{versionConnect, protocolArgs, deviceArgs, clientConnected, displaced, logEntry, toAll, toOthers}
 use Rattle.machine.specs.Report.{Work, visit}
 use Rattle.machine.specs.Requests.{Asked, Nothing, NotMessage, Reply, Unknown, Asks, asked, sendsOnly, answer}
 use Rattle.machine.specs.Declined.{Arrival, Action, Connect, Disconnect, Tick, Reading, Log, Line, Call, declined, refusal}
@@ -36,10 +37,17 @@ sampleGiven n r = sampleIn (n .kind) (sampleOf (n .kind) (n .«option_count») (
 abbrev pub storedGiven : Sensor → Arrival → Stored
 storedGiven n r = record { sample = sampleGiven n r; time = r .time }
 
--- "first the newcomer gets `#version-connect katcp-protocol 5.1-MIB`, then `katcp-device` ..; then the other clients get `#client-connected`"
+-- "first the newcomer gets `#version-connect katcp-protocol 5.1-MIB`, then `katcp-device`"
+abbrev pub greeting : Sheet → ℕ → List Delivery
+greeting sheet c = to c (versionConnect (protocolArgs (sheet .profile))) ∷ to c (versionConnect (deviceArgs sheet)) ∷ []
+
+-- document 02, (m): "A connect while connected gives the old client `#disconnect` .., and then greets the newcomer"; "No `client-connected` is sent"
+abbrev pub connectSingle : Sheet → State → ℕ → List ℕ → List Delivery
+connectSingle sheet s c address = oneIf (connected s c) (to c (displaced address)) ++ greeting sheet c
+
+-- by the profile; under 0 "then the other clients get `#client-connected` with the address"
 unfoldable pub connectSends : Sheet → State → ℕ → List ℕ → List Delivery
-connectSends sheet s c address =
-    to c (versionConnect protocolArgs) ∷ to c (versionConnect (deviceArgs sheet)) ∷ toOthers s c (clientConnected address)
+connectSends sheet s c address = cond (single (sheet .profile)) (connectSingle sheet s c address) (greeting sheet c ++ toOthers s c (clientConnected address))
 
 -- "sent .. to all if its level is at or above the set one": more severe levels have lower numbers
 unfoldable pub entries : State → ℕ → List ℕ → List ℕ → List Delivery

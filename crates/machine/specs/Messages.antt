@@ -19,7 +19,7 @@ use Rattle.machine.specs.declared.Strategy.{Strategy}
 use Rattle.machine.specs.declared.Strategy.the-variants.{None, Auto, Period, Event, Differential, EventRate, DifferentialRate}
 use Rattle.machine.specs.declared.State.{State}
 use Rattle.machine.specs.Places.{gather, tabulate, oneIf}
-use Rattle.machine.specs.Sheet.{sensorOf, nameOf, descriptionOf, unitsOf, optionOf, apiOf, buildOf}
+use Rattle.machine.specs.Sheet.{single, sensorOf, nameOf, descriptionOf, unitsOf, optionOf, apiOf, buildOf}
 use Rattle.machine.specs.State.{storedOf, present, connected}
 
 -- an inform with an id, 0 for none
@@ -36,9 +36,9 @@ reply m args = message (code "!") (m .name) (m .id) args
 
 -- Connecting and leaving.
 
--- the arguments of `#version-connect katcp-protocol 5.1-MIB`
-abbrev pub protocolArgs : List (List ℕ)
-protocolArgs = text "katcp-protocol" ∷ text "5.1-MIB" ∷ []
+-- the arguments of `#version-connect katcp-protocol 5.1-MIB`; document 02, (m): "Profile 1 writes `5.1-IB`"
+abbrev pub protocolArgs : ℕ → List (List ℕ)
+protocolArgs profile = text "katcp-protocol" ∷ cond (single profile) (text "5.1-IB") (text "5.1-MIB") ∷ []
 
 -- the arguments of "`katcp-device` with API and build"
 abbrev pub deviceArgs : Sheet → List (List ℕ)
@@ -55,6 +55,10 @@ clientConnected address = inform (text "client-connected") (address ∷ [])
 -- "`#disconnect` (`Device halting.`, `Device restarting.`)"
 abbrev pub disconnect : List ℕ → Message
 disconnect why = inform (text "disconnect") (why ∷ [])
+
+-- document 02, (m): "`#disconnect` with `New client connected from`, a space and the newcomer's address as one argument"
+abbrev pub displaced : List ℕ → Message
+displaced address = disconnect (text "New client connected from " ++ address)
 
 -- Log entries.
 

@@ -133,7 +133,7 @@ restAt n s =
 unfoldable pub sensorAt : List ℕ → Taken Sensor
 sensorAt s = andThen (headAt s) restAt
 
--- a sheet by its parts
+-- a sheet by its parts; the profile is not among its bytes
 abbrev pub sheetBy : List ℕ → List ℕ → List Sensor → Sheet
 sheetBy api build ns = record {
   api = padded 32 api;
@@ -141,6 +141,7 @@ sheetBy api build ns = record {
   build = padded 32 build;
   «build_len» = length build;
   count = length ns;
+  profile = 0;
   sensors = ns ++ replicate (32 - length ns) blankSensor;
 }
 
@@ -158,16 +159,29 @@ bodyAt s =
 unfoldable pub sheetAt : List ℕ → Taken Sheet
 sheetAt s = andThen (bytesAt 5 s) (λ m rest. cond (same m mark) (bodyAt rest) broken)
 
--- "sheet breaks its layout", 4, with the "blank halted state"
-abbrev pub refused : Opened
-refused = record { number = 4; state = blank }
+-- what a device is opened with: document 02, (m), "Opening takes a profile", and the bytes of a sheet
+pub record Start : Type 0 where
+  pub profile : ℕ
+  pub bytes : List ℕ
 
--- "Nothing follows", and the parts keep the section's rules
-abbrev pub accepted : Taken Sheet → Opened
-accepted broken = refused
-accepted (taken sheet []) = cond (sheetOk sheet) (record { number = 0; state = fresh sheet }) refused
-accepted (taken sheet (b ∷ rest)) = refused
+-- by its parts
+abbrev pub startOf : ℕ → List ℕ → Start
+startOf profile bytes = record { profile = profile; bytes = bytes }
 
--- "Opening a sheet returns number and state"
-unfoldable pub opened : List ℕ → Opened
-opened bytes = accepted (sheetAt bytes)
+-- the sheet with a profile
+abbrev pub withProfile : Sheet → ℕ → Sheet
+withProfile sheet profile = record { api = sheet .api; «api_len» = sheet .«api_len»; build = sheet .build; «build_len» = sheet .«build_len»; count = sheet .count; profile = profile; sensors = sheet .sensors }
+
+-- nothing is opened: a number, with the "blank halted state"
+abbrev pub notOpened : ℕ → Opened
+notOpened number = record { number = number; state = blank }
+
+-- "Nothing follows", and the parts keep the section's rules; else "sheet breaks its layout", 4
+abbrev pub accepted : ℕ → Taken Sheet → Opened
+accepted profile broken = notOpened 4
+accepted profile (taken sheet []) = cond (sheetOk sheet) (record { number = 0; state = fresh (withProfile sheet profile) }) (notOpened 4)
+accepted profile (taken sheet (b ∷ rest)) = notOpened 4
+
+-- "Opening a sheet returns number and state"; document 02, (m): "31, with the blank state as at 4, when the profile is neither, before 4"
+unfoldable pub opened : Start → Opened
+opened start = cond (leb (start .profile) 1) (accepted (start .profile) (sheetAt (start .bytes))) (notOpened 31)

@@ -1,5 +1,5 @@
 -- Document 02, (i), "Others on the line": what one client, the dispatcher's archive, is told of the sensors does not depend on the other clients. `a` is the
--- dispatcher's client number, `bytes` the sheet. Lists of calls stand first to last; `h` has its latest call first, as in TwoDevices.antt.
+-- dispatcher's client number, `start` what both devices were opened with. Lists of calls stand first to last; `h` has its latest call first, as in TwoDevices.antt.
 use Prim.Native.Nat.{ℕ, _<_}
 use mathlib.Core.Path.{_≡_}
 use mathlib.Core.Bool.{Bool, true, false, not, _&&_, _||_}
@@ -11,6 +11,7 @@ use Rattle.message.specs.Message.{Message, line}
 use Rattle.line.specs.Line.{Parse, malformed, message, parse}
 use Rattle.machine.specs.declared.State.{State}
 use Rattle.machine.specs.Places.{only}
+use Rattle.machine.specs.Opening.{Start}
 use Rattle.machine.specs.State.{clientOf, pairOf}
 use Rattle.machine.specs.Declined.{Action, Connect, Disconnect, Tick, Reading, Log, Line, Call}
 use Rattle.machine.specs.Machine.{step}
@@ -45,22 +46,22 @@ abbrev pub sharedCalls : ℕ → List Call → List SharedCall
 sharedCalls a calls = map sharedOf (sharedIn a calls)
 
 -- "No other client .. has a halt or restart accepted": whether one has, by what is "answered `ok`" (`endsAll`)
-unfoldable pub othersEnd : List ℕ → ℕ → List Call → Bool
-othersEnd bytes a [] = false
-othersEnd bytes a (call ∷ h) = (not (isShared a (call .action)) && endsAll (call .action) (packetsOf bytes h call)) || othersEnd bytes a h
+unfoldable pub othersEnd : Start → ℕ → List Call → Bool
+othersEnd start a [] = false
+othersEnd start a (call ∷ h) = (not (isShared a (call .action)) && endsAll (call .action) (packetsOf start h call)) || othersEnd start a h
 
--- "Two lists of calls from fresh devices of one sheet"; "Connections, requests and log entries of the others may differ": nothing else is asked of them
-pub record OneDispatcher (bytes : List ℕ) (a : ℕ) (one two : List Call) : Type 0 where
+-- "Two lists of calls from fresh devices of one sheet", and of one profile (document 02, (m)); "Connections, requests and log entries of the others may differ": nothing else is asked of them
+pub record OneDispatcher (start : Start) (a : ℕ) (one two : List Call) : Type 0 where
   pub same-calls : sharedCalls a one ≡ sharedCalls a two
-  pub none-ends : othersEnd bytes a (reverse one) ≡ false
-  pub none-ends-there : othersEnd bytes a (reverse two) ≡ false
+  pub none-ends : othersEnd start a (reverse one) ≡ false
+  pub none-ends-there : othersEnd start a (reverse two) ≡ false
 
 -- The dispatcher's lines.
 
 -- all that are delivered to it over the list, in order
-unfoldable pub linesEver : List ℕ → ℕ → List Call → List (List ℕ)
-linesEver bytes a [] = []
-linesEver bytes a (call ∷ h) = linesEver bytes a h ++ linesTo a (packetsOf bytes h call)
+unfoldable pub linesEver : Start → ℕ → List Call → List (List ℕ)
+linesEver start a [] = []
+linesEver start a (call ∷ h) = linesEver start a h ++ linesTo a (packetsOf start h call)
 
 -- a line whose message has a name that passes the test
 abbrev pub isNamedAs : (List ℕ → Bool) → Parse → Bool
@@ -68,8 +69,8 @@ isNamedAs is malformed = false
 isNamedAs is (message m) = is (m .name)
 
 -- such lines among all of a list
-abbrev pub linesNamed : (List ℕ → Bool) → List ℕ → ℕ → List Call → List (List ℕ)
-linesNamed is bytes a calls = only (λ l. isNamedAs is (parse (withoutEnd l))) (linesEver bytes a (reverse calls))
+abbrev pub linesNamed : (List ℕ → Bool) → Start → ℕ → List Call → List (List ℕ)
+linesNamed is start a calls = only (λ l. isNamedAs is (parse (withoutEnd l))) (linesEver start a (reverse calls))
 
 -- "the dispatcher's `sensor-status` lines" and "its replies and informs to `sensor-sampling`, `sensor-value` and `sensor-list`", which have the request's name
 abbrev pub ofSensors : List ℕ → Bool
@@ -79,8 +80,8 @@ ofSensors name =
 
 -- the request: "Then the dispatcher's `sensor-status` lines are equal, as are its replies and informs", all as one sequence, byte for byte
 abbrev pub OthersApart : Type 0
-OthersApart = (bytes : List ℕ) (a : ℕ) (one two : List Call) → OneDispatcher bytes a one two
-    → linesNamed ofSensors bytes a one ≡ linesNamed ofSensors bytes a two
+OthersApart = (start : Start) (a : ℕ) (one two : List Call) → OneDispatcher start a one two
+    → linesNamed ofSensors start a one ≡ linesNamed ofSensors start a two
 
 -- How far the others reach.
 
@@ -100,21 +101,21 @@ pub record AlikeFor (a : ℕ) (s t : State) : Type 0 where
   pub pair-same : (j : ℕ) → j < 32 → pairOf s a j ≡ pairOf t a j
 
 -- all messages that are sent to it over the list, in order
-unfoldable pub sentEver : List ℕ → ℕ → List Call → List Message
-sentEver bytes a [] = []
-sentEver bytes a (call ∷ h) = sentEver bytes a h ++ sentTo a (step (after bytes h) call .sent)
+unfoldable pub sentEver : Start → ℕ → List Call → List Message
+sentEver start a [] = []
+sentEver start a (call ∷ h) = sentEver start a h ++ sentTo a (step (after start h) call .sent)
 
 -- `same-lines`: all the dispatcher's lines are equal but those in which others show, as one sequence.
 -- `same-state`: the states that the two lists end with are alike for it; and so after each shared call, since two such lists that are cut there are two
 -- such lists.
 -- `by-name`: the lines of a name are those of the messages that were sent with that name, none more and none less.
 pub record OthersReach : Type 0 where
-  pub same-lines : (bytes : List ℕ) (a : ℕ) (one two : List Call) → OneDispatcher bytes a one two
-      → linesNamed (λ name. not (ofOthers name)) bytes a one ≡ linesNamed (λ name. not (ofOthers name)) bytes a two
-  pub same-state : (bytes : List ℕ) (a : ℕ) → a < 8 → (one two : List Call) → OneDispatcher bytes a one two
-      → AlikeFor a (after bytes (reverse one)) (after bytes (reverse two))
-  pub by-name : (is : List ℕ → Bool) (bytes : List ℕ) (a : ℕ) (calls : List Call)
-      → linesNamed is bytes a calls ≡ map line (only (λ (m : Message). is (m .name)) (sentEver bytes a (reverse calls)))
+  pub same-lines : (start : Start) (a : ℕ) (one two : List Call) → OneDispatcher start a one two
+      → linesNamed (λ name. not (ofOthers name)) start a one ≡ linesNamed (λ name. not (ofOthers name)) start a two
+  pub same-state : (start : Start) (a : ℕ) → a < 8 → (one two : List Call) → OneDispatcher start a one two
+      → AlikeFor a (after start (reverse one)) (after start (reverse two))
+  pub by-name : (is : List ℕ → Bool) (start : Start) (a : ℕ) (calls : List Call)
+      → linesNamed is start a calls ≡ map line (only (λ (m : Message). is (m .name)) (sentEver start a (reverse calls)))
 
 -- Lists that differ meet the assumption.
 
@@ -132,14 +133,14 @@ asksEnd (Line c line) = isRequest (text "halt") (parse line) || isRequest (text 
 -- request that returned 0.
 -- `alone`: a list, and that list without all calls of the others, as if the dispatcher were alone on the line.
 pub record OthersMet : Type 0 where
-  pub accepted : (bytes : List ℕ) (h : List Call) (call : Call)
-      → endsAll (call .action) (packetsOf bytes h call) ≡ (returnedZero bytes h call && asksEnd (call .action))
-  pub fresh : (bytes : List ℕ) (a : ℕ) → OneDispatcher bytes a [] []
-  pub shared-call : (bytes : List ℕ) (a : ℕ) (one two : List Call) → OneDispatcher bytes a one two → (call other : Call)
-      → isShared a (call .action) ≡ true → sharedOf call ≡ sharedOf other → OneDispatcher bytes a (one ++ (call ∷ [])) (two ++ (other ∷ []))
-  pub others-call : (bytes : List ℕ) (a : ℕ) (one two : List Call) → OneDispatcher bytes a one two → (call : Call)
-      → isShared a (call .action) ≡ false → (returnedZero bytes (reverse one) call && asksEnd (call .action)) ≡ false
-      → OneDispatcher bytes a (one ++ (call ∷ [])) two
-  pub either-way : (bytes : List ℕ) (a : ℕ) (one two : List Call) → OneDispatcher bytes a one two → OneDispatcher bytes a two one
-  pub alone : (bytes : List ℕ) (a : ℕ) (calls : List Call) → othersEnd bytes a (reverse calls) ≡ false
-      → OneDispatcher bytes a calls (sharedIn a calls)
+  pub accepted : (start : Start) (h : List Call) (call : Call)
+      → endsAll (call .action) (packetsOf start h call) ≡ (returnedZero start h call && asksEnd (call .action))
+  pub fresh : (start : Start) (a : ℕ) → OneDispatcher start a [] []
+  pub shared-call : (start : Start) (a : ℕ) (one two : List Call) → OneDispatcher start a one two → (call other : Call)
+      → isShared a (call .action) ≡ true → sharedOf call ≡ sharedOf other → OneDispatcher start a (one ++ (call ∷ [])) (two ++ (other ∷ []))
+  pub others-call : (start : Start) (a : ℕ) (one two : List Call) → OneDispatcher start a one two → (call : Call)
+      → isShared a (call .action) ≡ false → (returnedZero start (reverse one) call && asksEnd (call .action)) ≡ false
+      → OneDispatcher start a (one ++ (call ∷ [])) two
+  pub either-way : (start : Start) (a : ℕ) (one two : List Call) → OneDispatcher start a one two → OneDispatcher start a two one
+  pub alone : (start : Start) (a : ℕ) (calls : List Call) → othersEnd start a (reverse calls) ≡ false
+      → OneDispatcher start a calls (sharedIn a calls)

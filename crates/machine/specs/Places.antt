@@ -30,6 +30,11 @@ module _ {A : Type 0} where
   only f [] = []
   only f (x ∷ xs) = cond (f x) (x ∷ only f xs) (only f xs)
 
+  -- from the first that passes the test on
+  unfoldable pub fromFirst : (A → Bool) → List A → List A
+  fromFirst f [] = []
+  fromFirst f (x ∷ xs) = cond (f x) (x ∷ xs) (fromFirst f xs)
+
 -- the test holds at each place below n
 unfoldable pub allBelow : (ℕ → Bool) → ℕ → Bool
 allBelow f zero = true

@@ -17,7 +17,7 @@ use Rattle.machine.specs.declared.Stored.{Stored}
 use Rattle.machine.specs.declared.Client.{Client}
 use Rattle.machine.specs.declared.State.{State}
 use Rattle.machine.specs.Places.{allBelow}
-use Rattle.machine.specs.Sheet.{sensorOf, graphic, textOk, sensorsOk, titlesOk, titlesNone}
+use Rattle.machine.specs.Sheet.{lastClient, sensorOf, graphic, textOk, sensorsOk, titlesOk, titlesNone}
 use Rattle.machine.specs.State.{noStored, noClient, connected, pairAt}
 
 -- a sample that a sensor can have
@@ -98,17 +98,29 @@ clientOkAt ks c = clientOk (getD ks c noClient)
 unfoldable pub noClients : List Client → Bool
 noClients ks = allBelow (λ c. not (getD ks c noClient .connected)) 8
 
--- what, in range, only the blank state has: empty texts, with no sensors, no clients, halted, level off and the clock at 0
+-- what, in range, only the blank state has: empty texts, with no sensors, profile 0, no clients, halted, level off and the clock at 0
 unfoldable pub isBlank : State → Bool
-isBlank s = titlesNone (s .sheet) && (eqb (s .sheet .count) 0 && (noClients (s .clients) && (s .halted && (eqb (s .level) 0 && eqb (s .clock) 0))))
+isBlank s =
+    titlesNone (s .sheet)
+    && (eqb (s .sheet .count) 0
+    && (eqb (s .sheet .profile) 0 && (noClients (s .clients) && (s .halted && (eqb (s .level) 0 && eqb (s .clock) 0)))))
+
+-- no client above the highest is connected: document 02, (m), "a state of it with another client connected gets 1"
+unfoldable pub clientsWithin : ℕ → List Client → Bool
+clientsWithin last ks = allBelow (λ c. leb c last || not (getD ks c noClient .connected)) 8
+
+-- document 02, (m): the profile is "0 for the present behaviour or 1 for single-client"
+unfoldable pub profileOk : State → Bool
+profileOk s = leb (s .sheet .profile) 1 && clientsWithin (lastClient (s .sheet .profile)) (s .clients)
 
 -- every field within what document 01 allows
 unfoldable pub inRange : State → Bool
 inRange s =
     (titlesOk (s .sheet) || isBlank s)
+    && (profileOk s
     && (sensorsOk (s .sheet)
     && (inTime (s .clock)
     && (leb (s .level) 7
     && (allBelow (storedOkAt (s .sheet) (s .clock) (s .readings)) 32
     && (allBelow (clientOkAt (s .clients)) 8
-    && allBelow (pairOkAt s) 256)))))
+    && allBelow (pairOkAt s) 256))))))

@@ -1,7 +1,7 @@
 -- Document 01, "Requests": the table of requests, what a line asks, and the names, strategies and parameters of `sensor-sampling`.
 use Prim.Native.Nat.{ℕ, _/_, _%_}
 use Prim.Native.Char.{code}
-use mathlib.Core.Bool.{Bool, true, false, cond, _&&_, _||_}
+use mathlib.Core.Bool.{Bool, true, false, cond, not, _&&_, _||_}
 use mathlib.Core.List.{List, [], _∷_, map}
 use mathlib.Core.Option.{Option, none, some}
 use lib.Dec.{eqb, ltb}
@@ -24,8 +24,8 @@ use Rattle.machine.specs.declared.State.{State}
 use Rattle.machine.specs.declared.Request.{Request}
 use Rattle.machine.specs.declared.Request.the-variants.{ClientList, Halt, Help, LogLevel, Restart, SensorList, SensorSampling, SensorValue, VersionList, Watchdog}
 use Rattle.machine.specs.declared.Found.{Found}
-use Rattle.machine.specs.Places.{tabulate, gather, oneIf, any, firstBelow, has}
-use Rattle.machine.specs.Sheet.{sensorOf, placeOf}
+use Rattle.machine.specs.Places.{tabulate, gather, oneIf, any, only, firstBelow, has}
+use Rattle.machine.specs.Sheet.{single, sensorOf, placeOf}
 use Rattle.machine.specs.State.{noClient, present, addressOf, pairAt, pairOf, withPairs, withLevel, emptied, startLevel}
 use Rattle.machine.specs.Range.{isNone}
 use Rattle.machine.specs.Messages
@@ -66,10 +66,23 @@ requestIn (r ∷ rs) name = cond (same (r .name) name) (some (r .request)) (requ
 unfoldable pub requestNamed : List ℕ → Option Request
 requestNamed name = requestIn requests name
 
+-- a request that a sheet's profile does not have: document 02, (m), "`client-list` gets 14 and `help` omits it"
+unfoldable pub hidden : ℕ → Request → Bool
+hidden profile ClientList = single profile
+hidden profile Halt = false
+hidden profile Help = false
+hidden profile LogLevel = false
+hidden profile Restart = false
+hidden profile SensorList = false
+hidden profile SensorSampling = false
+hidden profile SensorValue = false
+hidden profile VersionList = false
+hidden profile Watchdog = false
+
 -- the code's answer for a name
-abbrev pub found : Option Request → Found
-found none = Found.Unknown
-found (some r) = Found.Is r
+abbrev pub found : ℕ → Option Request → Found
+found profile none = Found.Unknown
+found profile (some r) = cond (hidden profile r) Found.Unknown (Found.Is r)
 
 -- document 01's number for it, by the row that asks: "request unknown", 14, of a line's name; "help on unknown name", 23, of an argument
 abbrev pub foundNumber : ℕ → Found → ℕ
@@ -125,9 +138,13 @@ listed sheet m = map (placeOf sheet) (split (argument m 0))
 unfoldable pub askedPlaces : Sheet → Message → List ℕ
 askedPlaces sheet m = cond (eqb (length (m .args)) 0) (allPlaces sheet) (listed sheet m)
 
--- the requests that `help` tells of: all, or the one that is named
-unfoldable pub helpNames : Message → List (List ℕ)
-helpNames m = cond (eqb (length (m .args)) 0) (map (λ (r : Row). r .name) requests) (argument m 0 ∷ [])
+-- the rows of the requests that a profile has
+abbrev pub shownRows : ℕ → List Row
+shownRows profile = only (λ (r : Row). not (hidden profile (r .request))) requests
+
+-- the requests that `help` tells of: all of these, or the one that is named
+unfoldable pub helpNames : ℕ → Message → List (List ℕ)
+helpNames profile m = cond (eqb (length (m .args)) 0) (map (λ (r : Row). r .name) (shownRows profile)) (argument m 0 ∷ [])
 
 -- the level of a word; 8 where no level has it: "off, fatal, error, warn, info, debug, trace, all"
 unfoldable pub levelOf : List ℕ → ℕ
@@ -268,11 +285,11 @@ sampling sheet s c m =
 unfoldable pub answer : Sheet → State → ℕ → Request → Message → Work
 answer sheet s c ClientList m = sendsOnly s (Messages.countedAnswer c m (map (Messages.clientInform (m .id)) (addresses s)))
 answer sheet s c Halt m = endConnections s c m (text "Device halting.") true (s .level)
-answer sheet s c Help m = sendsOnly s (Messages.countedAnswer c m (map (Messages.helpInform (m .id)) (helpNames m)))
+answer sheet s c Help m = sendsOnly s (Messages.countedAnswer c m (map (Messages.helpInform (m .id)) (helpNames (sheet .profile) m)))
 answer sheet s c LogLevel m = record { sent = to c (Messages.okReply m (Messages.levelText (levelAsked s m) ∷ [])) ∷ []; next = withLevel s (levelAsked s m) }
 answer sheet s c Restart m = endConnections s c m (text "Device restarting.") false startLevel
 answer sheet s c SensorList m = sendsOnly s (Messages.countedAnswer c m (map (λ j. Messages.sensorInform (m .id) (sensorOf sheet j)) (askedPlaces sheet m)))
 answer sheet s c SensorSampling m = sampling sheet s c m
 answer sheet s c SensorValue m = sendsOnly s (Messages.countedAnswer c m (map (Messages.valueInform (m .id) s sheet) (askedPlaces sheet m)))
-answer sheet s c VersionList m = sendsOnly s (Messages.countedAnswer c m (map (Messages.versionInform (m .id)) (Messages.protocolArgs ∷ Messages.deviceArgs sheet ∷ [])))
+answer sheet s c VersionList m = sendsOnly s (Messages.countedAnswer c m (map (Messages.versionInform (m .id)) (Messages.protocolArgs (sheet .profile) ∷ Messages.deviceArgs sheet ∷ [])))
 answer sheet s c Watchdog m = sendsOnly s (to c (Messages.okReply m []) ∷ [])

@@ -62,6 +62,16 @@ placeOf sheet name = firstBelow (λ j. same (nameOf (sensorOf sheet j)) name) (s
 abbrev pub notOnSheet : Sheet → ℕ → Bool
 notOnSheet sheet j = leb (sheet .count) j
 
+-- The profile.
+
+-- document 02, (m): "1 for single-client"
+abbrev pub single : ℕ → Bool
+single profile = eqb profile 1
+
+-- the highest client: document 01, "clients 0–7"; document 02, (m), "Profile 1 .. has client 0 only"
+abbrev pub lastClient : ℕ → ℕ
+lastClient profile = cond (single profile) 0 7
+
 -- Bytes and texts.
 
 -- "bytes 0x21–0x7E"

@@ -136,7 +136,7 @@ blankSensor = record { name = replicate 32 0; «name_len» = 0; description = re
 
 -- a sheet of no sensors and empty texts
 abbrev pub blankSheet : Sheet
-blankSheet = record { api = replicate 32 0; «api_len» = 0; build = replicate 32 0; «build_len» = 0; count = 0; sensors = replicate 32 blankSensor }
+blankSheet = record { api = replicate 32 0; «api_len» = 0; build = replicate 32 0; «build_len» = 0; count = 0; profile = 0; sensors = replicate 32 blankSensor }
 
 -- "The blank state (halted, level off, no sensors, no clients, empty texts, all else zero)"
 abbrev pub blank : State

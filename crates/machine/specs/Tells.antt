@@ -1,5 +1,5 @@
 -- What the file of one archive tells of the sensors: at the end, at every moment before it, and where the file is cut. `a` is the archive's client
--- number, `bytes` the sheet, `h` a list of calls with its latest first, as in TwoDevices.antt; a file is the archive's lines (`linesOf`). The readings that it
+-- number, `start` what the unit was opened with, `h` a list of calls with its latest first, as in TwoDevices.antt; a file is the archive's lines (`linesOf`). The readings that it
 -- tells of are those that superseded the one stored before them (document 02, (g)): one that came late and was passed over is in no file and in no bound.
 use Prim.Native.Nat.{ℕ, _+_, _-_, _*_, _≤_, _<_}
 use Prim.Native.Char.{code}
@@ -19,6 +19,7 @@ use Rattle.machine.specs.declared.Strategy.{Strategy}
 use Rattle.machine.specs.declared.Strategy.the-variants.{None, Auto, Period, Event, Differential, EventRate, DifferentialRate}
 use Rattle.machine.specs.Places.{has, Each}
 use Rattle.machine.specs.Sheet.{sensorOf}
+use Rattle.machine.specs.Opening.{Start}
 use Rattle.machine.specs.Range.{isNone}
 use Rattle.machine.specs.Messages.{statusFor, report}
 use Rattle.machine.specs.Report.{isValid, apart, width}
@@ -82,40 +83,40 @@ FileTells sheet j ls clock x = ViewTells (sensorOf sheet j) (fileView sheet j ls
 -- The end of a list.
 
 -- the present reading of sensor j behind the calls h
-abbrev pub readingAt : List ℕ → ℕ → List Call → Sample
-readingAt bytes j h = sampleFrom (sensorOf (sheetOf bytes) j) (lastReading bytes j h)
+abbrev pub readingAt : Start → ℕ → List Call → Sample
+readingAt start j h = sampleFrom (sensorOf (sheetOf start) j) (lastReading start j h)
 
 -- the file behind the calls h tells of sensor j: its strategy is the one that the archive set, its last report is the last, and these tell the reading
-pub record TellsAt (bytes : List ℕ) (a : ℕ) (h : List Call) (j : ℕ) : Type 0 where
-  pub strategy-told : fileView (sheetOf bytes) j (linesOf bytes a h) .strategy ≡ strategyOf bytes a j h
-  pub report-told : fileView (sheetOf bytes) j (linesOf bytes a h) .last ≡ lastReport (sheetOf bytes) j (linesOf bytes a h)
-  pub reading-told : FileTells (sheetOf bytes) j (linesOf bytes a h) (clockOf bytes h) (readingAt bytes j h)
+pub record TellsAt (start : Start) (a : ℕ) (h : List Call) (j : ℕ) : Type 0 where
+  pub strategy-told : fileView (sheetOf start) j (linesOf start a h) .strategy ≡ strategyOf start a j h
+  pub report-told : fileView (sheetOf start) j (linesOf start a h) .last ≡ lastReport (sheetOf start) j (linesOf start a h)
+  pub reading-told : FileTells (sheetOf start) j (linesOf start a h) (clockOf start h) (readingAt start j h)
 
 -- of every device with its archive connected at the end
 abbrev pub Tells : Type 0
-Tells = (bytes : List ℕ) (a : ℕ) (h : List Call) → connectedAtEnd bytes a h ≡ true → (j : ℕ) → j < sheetOf bytes .count → TellsAt bytes a h j
+Tells = (start : Start) (a : ℕ) (h : List Call) → connectedAtEnd start a h ≡ true → (j : ℕ) → j < sheetOf start .count → TellsAt start a h j
 
 -- Every moment.
 
 -- the archive connects in one of the calls `later`, which come behind the calls h
-unfoldable pub connectsIn : List ℕ → ℕ → List Call → List Call → Bool
-connectsIn bytes a [] h = false
-connectsIn bytes a (call ∷ later) h = connects bytes a (later ++ h) call || connectsIn bytes a later h
+unfoldable pub connectsIn : Start → ℕ → List Call → List Call → Bool
+connectsIn start a [] h = false
+connectsIn start a (call ∷ later) h = connects start a (later ++ h) call || connectsIn start a later h
 
 -- an earlier moment of the archive's connection: behind the calls h, where the calls `later` follow
-pub record Earlier (bytes : List ℕ) (a : ℕ) (later h : List Call) : Type 0 where
-  pub at-end : connectedAtEnd bytes a (later ++ h) ≡ true
-  pub same-connection : connectsIn bytes a later h ≡ false
+pub record Earlier (start : Start) (a : ℕ) (later h : List Call) : Type 0 where
+  pub at-end : connectedAtEnd start a (later ++ h) ≡ true
+  pub same-connection : connectsIn start a later h ≡ false
 
 -- the archive is connected there too, its lines up to there are a start of the file, and these tell the readings as they are there
-pub record Moment (bytes : List ℕ) (a : ℕ) (later h : List Call) : Type 0 where
-  pub connected-then : connectedAtEnd bytes a h ≡ true
-  pub start : (rest : List (List ℕ)) × (linesOf bytes a (later ++ h) ≡ linesOf bytes a h ++ rest)
-  pub tells-then : (j : ℕ) → j < sheetOf bytes .count → TellsAt bytes a h j
+pub record Moment (start : Start) (a : ℕ) (later h : List Call) : Type 0 where
+  pub connected-then : connectedAtEnd start a h ≡ true
+  pub begins : (rest : List (List ℕ)) × (linesOf start a (later ++ h) ≡ linesOf start a h ++ rest)
+  pub tells-then : (j : ℕ) → j < sheetOf start .count → TellsAt start a h j
 
 -- at every one of them
 abbrev pub EveryMoment : Type 0
-EveryMoment = (bytes : List ℕ) (a : ℕ) (later h : List Call) → Earlier bytes a later h → Moment bytes a later h
+EveryMoment = (start : Start) (a : ℕ) (later h : List Call) → Earlier start a later h → Moment start a later h
 
 -- Peaks.
 
@@ -158,10 +159,10 @@ reach n (EventRate shortest longest) = none
 reach n (DifferentialRate d shortest longest) = none
 
 -- sensor j has had the strategy st from the moment h on
-pub record Under (bytes : List ℕ) (a j : ℕ) (st : Strategy) (later h : List Call) : Type 0 where
-  pub earlier : Earlier bytes a later h
-  pub on-sheet : j < sheetOf bytes .count
-  pub set-since : Each (λ g. strategyOf bytes a j g ≡ st) (moments later h)
+pub record Under (start : Start) (a j : ℕ) (st : Strategy) (later h : List Call) : Type 0 where
+  pub earlier : Earlier start a later h
+  pub on-sheet : j < sheetOf start .count
+  pub set-since : Each (λ g. strategyOf start a j g ≡ st) (moments later h)
 
 -- a line that names sensor j with no other strategy than st
 abbrev pub KeepsStrategy : ℕ → Strategy → News → Type 0
@@ -174,44 +175,44 @@ KeepsStrategy j st (SetTo js new) = has j js ≡ true → new ≡ st
 -- `peak`: so the highest of these readings is at most the highest valid report and the reach.
 -- `as-shown`: the file shows the assumption: its lines up to h set this strategy, and those behind name the sensor with no other.
 pub record PeakBounded : Type 0 where
-  pub within : (bytes : List ℕ) (a j w : ℕ) (st : Strategy) (later h : List Call) → Under bytes a j st later h → reach (sensorOf (sheetOf bytes) j) st ≡ some w
-      → Each (λ x. isValid x ≡ true → (v : ℕ) × ((has v (validReports (sheetOf bytes) j (linesOf bytes a (later ++ h))) ≡ true)
-      × (apart (x .number) v * 1000000 ≤ w))) (map (readingAt bytes j) (moments later h))
-  pub peak : (bytes : List ℕ) (a j w : ℕ) (st : Strategy) (later h : List Call) → Under bytes a j st later h → reach (sensorOf (sheetOf bytes) j) st ≡ some w
-      → highest (validNumbers (map (readingAt bytes j) (moments later h))) * 1000000
-      ≤ highest (validReports (sheetOf bytes) j (linesOf bytes a (later ++ h))) * 1000000 + w
-  pub as-shown : (bytes : List ℕ) (a j : ℕ) (st : Strategy) (later h : List Call) (behind : List (List ℕ)) → Earlier bytes a later h → j < sheetOf bytes .count
-      → linesOf bytes a (later ++ h) ≡ linesOf bytes a h ++ behind → fileView (sheetOf bytes) j (linesOf bytes a h) .strategy ≡ st
-      → Each (λ l. KeepsStrategy j st (lineNews (sheetOf bytes) l)) behind → Under bytes a j st later h
+  pub within : (start : Start) (a j w : ℕ) (st : Strategy) (later h : List Call) → Under start a j st later h → reach (sensorOf (sheetOf start) j) st ≡ some w
+      → Each (λ x. isValid x ≡ true → (v : ℕ) × ((has v (validReports (sheetOf start) j (linesOf start a (later ++ h))) ≡ true)
+      × (apart (x .number) v * 1000000 ≤ w))) (map (readingAt start j) (moments later h))
+  pub peak : (start : Start) (a j w : ℕ) (st : Strategy) (later h : List Call) → Under start a j st later h → reach (sensorOf (sheetOf start) j) st ≡ some w
+      → highest (validNumbers (map (readingAt start j) (moments later h))) * 1000000
+      ≤ highest (validReports (sheetOf start) j (linesOf start a (later ++ h))) * 1000000 + w
+  pub as-shown : (start : Start) (a j : ℕ) (st : Strategy) (later h : List Call) (behind : List (List ℕ)) → Earlier start a later h → j < sheetOf start .count
+      → linesOf start a (later ++ h) ≡ linesOf start a h ++ behind → fileView (sheetOf start) j (linesOf start a h) .strategy ≡ st
+      → Each (λ l. KeepsStrategy j st (lineNews (sheetOf start) l)) behind → Under start a j st later h
 
 -- Reports.
 
 -- every report of a call, under every strategy, tells the reading that its sensor has at the call's end, at the clock that stands then
 abbrev pub ReportsTrue : Type 0
-ReportsTrue = (bytes : List ℕ) (a : ℕ) (h : List Call) (call : Call)
-    → Each (λ l. (k : ℕ) (r : Told) → lineNews (sheetOf bytes) l ≡ Reported k r
-    → r ≡ toldOf (sensorOf (sheetOf bytes) k) (clockOf bytes (call ∷ h)) (readingAt bytes k (call ∷ h))) (linesTo a (packetsOf bytes h call))
+ReportsTrue = (start : Start) (a : ℕ) (h : List Call) (call : Call)
+    → Each (λ l. (k : ℕ) (r : Told) → lineNews (sheetOf start) l ≡ Reported k r
+    → r ≡ toldOf (sensorOf (sheetOf start) k) (clockOf start (call ∷ h)) (readingAt start k (call ∷ h))) (linesTo a (packetsOf start h call))
 
 -- Auto.
 
 -- the report of sensor j that a reading gives behind the calls h
-abbrev pub reportGiven : List ℕ → ℕ → Arrival → List Call → List ℕ
-reportGiven bytes j r h = line (report (clockOf bytes h) (sensorOf (sheetOf bytes) j) (sampleGiven (sensorOf (sheetOf bytes) j) r))
+abbrev pub reportGiven : Start → ℕ → Arrival → List Call → List ℕ
+reportGiven start j r h = line (report (clockOf start h) (sensorOf (sheetOf start) j) (sampleGiven (sensorOf (sheetOf start) j) r))
 
 -- Under auto every reading that superseded is a line of the file.
 -- `own-line`: it is the one line that the reading's call gives the archive, behind those before it.
 -- `in-file`: so it stands there in the file of every later moment of the connection.
 -- `told`: and it tells that reading, at that clock.
 pub record AutoShows : Type 0 where
-  pub own-line : (bytes : List ℕ) (a j : ℕ) → j < sheetOf bytes .count → (r : Arrival) (lent : List ℕ) (h : List Call)
-      → connectedAtEnd bytes a h ≡ true → Newer bytes j r lent h → strategyOf bytes a j h ≡ Auto
-      → linesOf bytes a (callOf (Reading j r) lent ∷ h) ≡ linesOf bytes a h ++ (reportGiven bytes j r h ∷ [])
-  pub in-file : (bytes : List ℕ) (a j : ℕ) → j < sheetOf bytes .count → (r : Arrival) (lent : List ℕ) (later h : List Call)
-      → Earlier bytes a later (callOf (Reading j r) lent ∷ h) → Newer bytes j r lent h → strategyOf bytes a j h ≡ Auto
-      → (rest : List (List ℕ)) × (linesOf bytes a (later ++ (callOf (Reading j r) lent ∷ h)) ≡ linesOf bytes a h ++ (reportGiven bytes j r h ∷ rest))
-  pub told : (bytes : List ℕ) (j : ℕ) → j < sheetOf bytes .count → (r : Arrival) (h : List Call)
-      → lineNews (sheetOf bytes) (reportGiven bytes j r h)
-      ≡ Reported j (toldOf (sensorOf (sheetOf bytes) j) (clockOf bytes h) (sampleGiven (sensorOf (sheetOf bytes) j) r))
+  pub own-line : (start : Start) (a j : ℕ) → j < sheetOf start .count → (r : Arrival) (lent : List ℕ) (h : List Call)
+      → connectedAtEnd start a h ≡ true → Newer start j r lent h → strategyOf start a j h ≡ Auto
+      → linesOf start a (callOf (Reading j r) lent ∷ h) ≡ linesOf start a h ++ (reportGiven start j r h ∷ [])
+  pub in-file : (start : Start) (a j : ℕ) → j < sheetOf start .count → (r : Arrival) (lent : List ℕ) (later h : List Call)
+      → Earlier start a later (callOf (Reading j r) lent ∷ h) → Newer start j r lent h → strategyOf start a j h ≡ Auto
+      → (rest : List (List ℕ)) × (linesOf start a (later ++ (callOf (Reading j r) lent ∷ h)) ≡ linesOf start a h ++ (reportGiven start j r h ∷ rest))
+  pub told : (start : Start) (j : ℕ) → j < sheetOf start .count → (r : Arrival) (h : List Call)
+      → lineNews (sheetOf start) (reportGiven start j r h)
+      ≡ Reported j (toldOf (sensorOf (sheetOf start) j) (clockOf start h) (sampleGiven (sensorOf (sheetOf start) j) r))
 
 -- The clock.
 
@@ -236,8 +237,8 @@ lineClock l = clockIn (parse (withoutEnd l))
 -- `shown`: each line of a call that shows a clock shows the one at the call's end.
 -- `at-least`: so the clock is at least that of every report and log entry in the file.
 pub record ClockShown : Type 0 where
-  pub never-back : (bytes : List ℕ) (later h : List Call) → clockOf bytes h ≤ clockOf bytes (later ++ h)
-  pub shown : (bytes : List ℕ) (a : ℕ) (h : List Call) (call : Call)
-      → Each (λ l. showsClock (parse (withoutEnd l)) ≡ true → lineClock l ≡ some (clockOf bytes (call ∷ h))) (linesTo a (packetsOf bytes h call))
-  pub at-least : (bytes : List ℕ) (a : ℕ) (h : List Call)
-      → Each (λ l. showsClock (parse (withoutEnd l)) ≡ true → (t : ℕ) × ((lineClock l ≡ some t) × (t ≤ clockOf bytes h))) (linesOf bytes a h)
+  pub never-back : (start : Start) (later h : List Call) → clockOf start h ≤ clockOf start (later ++ h)
+  pub shown : (start : Start) (a : ℕ) (h : List Call) (call : Call)
+      → Each (λ l. showsClock (parse (withoutEnd l)) ≡ true → lineClock l ≡ some (clockOf start (call ∷ h))) (linesTo a (packetsOf start h call))
+  pub at-least : (start : Start) (a : ℕ) (h : List Call)
+      → Each (λ l. showsClock (parse (withoutEnd l)) ≡ true → (t : ℕ) × ((lineClock l ≡ some t) × (t ≤ clockOf start h))) (linesOf start a h)

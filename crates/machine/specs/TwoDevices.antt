@@ -1,5 +1,6 @@
--- Document 01, "Two devices": what is read off a list of calls, and demand 3. A list is kept with its latest call first (`h`); `bytes` is the
--- sheet that the device was opened with.
+-- Document 01, "Two devices": what is read off a list of calls, and demand 3. A list is kept with its latest call first (`h`); `start` is what the
+-- device was opened with, sheet and profile: document 02, (m), "The facts of machine and archive are proved over the profile as a parameter, equal
+-- archives .. being compared within one profile".
 use Prim.Native.Nat.{ℕ, _-_, _*_, _≤_, _<_}
 use Prim.Native.Char.{code}
 use mathlib.Core.Path.{_≡_}
@@ -8,7 +9,7 @@ use mathlib.Core.List.{List, [], _∷_, _++_, reverse}
 use mathlib.Core.Option.{Option, none, some}
 use lib.Dec.{eqb, leb}
 use lib.ListN.{length, take}
-use Rattle.output.specs.Text.{text}
+use Rattle.output.specs.Text.{text, same}
 use Rattle.message.specs.Message.{Message}
 use Rattle.message.specs.Delivery.{Delivery, Packet, cut}
 use Rattle.line.specs.Line.{Parse, malformed, message, parse}
@@ -20,14 +21,14 @@ use Rattle.machine.specs.declared.Strategy.{Strategy}
 use Rattle.machine.specs.declared.Strategy.the-variants.{None, Auto, Period, Event, Differential, EventRate, DifferentialRate}
 use Rattle.machine.specs.declared.State.{State}
 use Rattle.machine.specs.declared.Answer.{Answer}
-use Rattle.machine.specs.Places.{any, has, joined, isZero}
+use Rattle.machine.specs.Places.{any, has, fromFirst, joined, isZero}
 use Rattle.machine.specs.Sheet.{sensorOf}
 use Rattle.machine.specs.State.{storedOf, present, pairOf}
 use Rattle.machine.specs.Range.{isNone}
-use Rattle.machine.specs.Opening.{opened}
+use Rattle.machine.specs.Opening.{Start, opened}
 use Rattle.machine.specs.Messages.{statusFor}
 use Rattle.machine.specs.Report.{isValid, apart, width}
-use Rattle.machine.specs.Requests.{listed, strategyAsked}
+use Rattle.machine.specs.Requests.{argument, listed, strategyAsked}
 use Rattle.machine.specs.Declined.{Arrival, Action, Connect, Disconnect, Tick, Reading, Log, Line, Call}
 use Rattle.machine.specs.Machine.{step, sampleGiven, answerOf, outputOf}
 use Rattle.machine.specs.Reader.{Told, News, Other, Impossible, Reported, SetTo, reportRead, isNamed, isOk, standing}
@@ -35,29 +36,29 @@ use Rattle.machine.specs.Reader.{Told, News, Other, Impossible, Reported
 -- Calls and what they return.
 
 -- "It starts from the state that opening the sheet returned. Each call gets the state the last one returned"
-unfoldable pub after : List ℕ → List Call → State
-after bytes [] = opened bytes .state
-after bytes (call ∷ h) = answerOf (step (after bytes h) call) .state
+unfoldable pub after : Start → List Call → State
+after start [] = opened start .state
+after start (call ∷ h) = answerOf (step (after start h) call) .state
 
 -- the sheet that was opened
-abbrev pub sheetOf : List ℕ → Sheet
-sheetOf bytes = opened bytes .state .sheet
+abbrev pub sheetOf : Start → Sheet
+sheetOf start = opened start .state .sheet
 
 -- what a call returns, after the calls h
-abbrev pub returned : List ℕ → List Call → Call → Answer
-returned bytes h call = answerOf (step (after bytes h) call)
+abbrev pub returned : Start → List Call → Call → Answer
+returned start h call = answerOf (step (after start h) call)
 
 -- it "returned 0"
-abbrev pub returnedZero : List ℕ → List Call → Call → Bool
-returnedZero bytes h call = isZero (returned bytes h call .number)
+abbrev pub returnedZero : Start → List Call → Call → Bool
+returnedZero start h call = isZero (returned start h call .number)
 
 -- the lent output as it returns
-abbrev pub outputThen : List ℕ → List Call → Call → List ℕ
-outputThen bytes h call = outputOf (step (after bytes h) call) (call .lent)
+abbrev pub outputThen : Start → List Call → Call → List ℕ
+outputThen start h call = outputOf (step (after start h) call) (call .lent)
 
 -- "its deliveries are those in the bytes it counts as written, read as it returns"
-unfoldable pub packetsOf : List ℕ → List Call → Call → List Packet
-packetsOf bytes h call = cut (take (returned bytes h call .written) (outputThen bytes h call))
+unfoldable pub packetsOf : Start → List Call → Call → List Packet
+packetsOf start h call = cut (take (returned start h call .written) (outputThen start h call))
 
 -- The archive's connection.
 
@@ -71,8 +72,8 @@ isConnect a (Log level logger said) = false
 isConnect a (Line c line) = false
 
 -- "connect of it that returned 0"
-abbrev pub connects : List ℕ → ℕ → List Call → Call → Bool
-connects bytes a h call = returnedZero bytes h call && isConnect a (call .action)
+abbrev pub connects : Start → ℕ → List Call → Call → Bool
+connects start a h call = returnedZero start h call && isConnect a (call .action)
 
 -- a disconnect of client a
 abbrev pub isDisconnect : ℕ → Action → Bool
@@ -115,12 +116,12 @@ endsAll (Log level logger said) ps = false
 endsAll (Line c line) ps = granted (text "halt") c line ps || granted (text "restart") c line ps
 
 -- "connected at the end if after that no disconnect of it returned 0 and no `halt` or `restart` was answered `ok`"
-unfoldable pub connectedAtEnd : List ℕ → ℕ → List Call → Bool
-connectedAtEnd bytes a [] = false
-connectedAtEnd bytes a (call ∷ h) =
-    cond (connects bytes a h call) true
-    (cond ((returnedZero bytes h call && isDisconnect a (call .action)) || endsAll (call .action) (packetsOf bytes h call)) false
-    (connectedAtEnd bytes a h))
+unfoldable pub connectedAtEnd : Start → ℕ → List Call → Bool
+connectedAtEnd start a [] = false
+connectedAtEnd start a (call ∷ h) =
+    cond (connects start a h call) true
+    (cond ((returnedZero start h call && isDisconnect a (call .action)) || endsAll (call .action) (packetsOf start h call)) false
+    (connectedAtEnd start a h))
 
 -- The archive's lines and messages.
 
@@ -129,11 +130,22 @@ unfoldable pub linesTo : ℕ → List Packet → List (List ℕ)
 linesTo a [] = []
 linesTo a (p ∷ ps) = cond (eqb (p .client) a) (p .bytes ∷ linesTo a ps) (linesTo a ps)
 
--- "Its lines are all delivered to it, in order, from that connect's `#version-connect katcp-protocol` on": that is the first line of the connect
--- that goes to it (`connectSends`)
-unfoldable pub linesOf : List ℕ → ℕ → List Call → List (List ℕ)
-linesOf bytes a [] = []
-linesOf bytes a (call ∷ h) = cond (connects bytes a h call) [] (linesOf bytes a h) ++ linesTo a (packetsOf bytes h call)
+-- `#version-connect katcp-protocol`
+abbrev pub greets : Message → Bool
+greets m = isNamed (code "#") (text "version-connect") m && same (argument m 0) (text "katcp-protocol")
+
+-- a line that is it
+abbrev pub isGreeting : Parse → Bool
+isGreeting malformed = false
+isGreeting (message m) = greets m
+
+-- "Its lines are all delivered to it, in order, from that connect's `#version-connect katcp-protocol` on": a `#disconnect` that the same connect sends before
+-- is the old client's (document 02, (m), "greets the newcomer, whose lines begin there")
+unfoldable pub linesOf : Start → ℕ → List Call → List (List ℕ)
+linesOf start a [] = []
+linesOf start a (call ∷ h) =
+    cond (connects start a h call) (fromFirst (λ l. isGreeting (parse (withoutEnd l))) (linesTo a (packetsOf start h call)))
+    (linesOf start a h ++ linesTo a (packetsOf start h call))
 
 -- the messages to client a among deliveries
 unfoldable pub sentTo : ℕ → List Delivery → List Message
@@ -141,9 +153,11 @@ sentTo a [] = []
 sentTo a (d ∷ ds) = cond (eqb (d .client) a) (d .message ∷ sentTo a ds) (sentTo a ds)
 
 -- "its messages are these as sent: kind, name, id, arguments before escaping"
-unfoldable pub messagesOf : List ℕ → ℕ → List Call → List Message
-messagesOf bytes a [] = []
-messagesOf bytes a (call ∷ h) = cond (connects bytes a h call) [] (messagesOf bytes a h) ++ sentTo a (step (after bytes h) call .sent)
+unfoldable pub messagesOf : Start → ℕ → List Call → List Message
+messagesOf start a [] = []
+messagesOf start a (call ∷ h) =
+    cond (connects start a h call) (fromFirst greets (sentTo a (step (after start h) call .sent)))
+    (messagesOf start a h ++ sentTo a (step (after start h) call .sent))
 
 -- What the list says of a sensor.
 
@@ -167,10 +181,10 @@ strategyAfter sheet a j (Line c line) ps before =
     cond (eqb c a && granted (text "sensor-sampling") c line ps) (strategyIn sheet j (parse line) before) before
 
 -- "those of the archive's last `sensor-sampling` since then that named it with a strategy and was answered `ok`, else none"
-unfoldable pub strategyOf : List ℕ → ℕ → ℕ → List Call → Strategy
-strategyOf bytes a j [] = None
-strategyOf bytes a j (call ∷ h) =
-    cond (connects bytes a h call) None (strategyAfter (sheetOf bytes) a j (call .action) (packetsOf bytes h call) (strategyOf bytes a j h))
+unfoldable pub strategyOf : Start → ℕ → ℕ → List Call → Strategy
+strategyOf start a j [] = None
+strategyOf start a j (call ∷ h) =
+    cond (connects start a h call) None (strategyAfter (sheetOf start) a j (call .action) (packetsOf start h call) (strategyOf start a j h))
 
 -- a report of sensor j
 abbrev pub reportIn : ℕ → News → Option Told
@@ -210,9 +224,9 @@ readingBy j (Log level logger said) before = before
 readingBy j (Line c line) before = before
 
 -- over the list
-unfoldable pub lastReading : List ℕ → ℕ → List Call → Option Arrival
-lastReading bytes j [] = none
-lastReading bytes j (call ∷ h) = cond (returnedZero bytes h call) (readingBy j (call .action) (lastReading bytes j h)) (lastReading bytes j h)
+unfoldable pub lastReading : Start → ℕ → List Call → Option Arrival
+lastReading start j [] = none
+lastReading start j (call ∷ h) = cond (returnedZero start h call) (readingBy j (call .action) (lastReading start j h)) (lastReading start j h)
 
 -- "with the status and value of the section Values, else the fresh one"
 abbrev pub sampleFrom : Sensor → Option Arrival → Sample
@@ -234,9 +248,9 @@ clockBy (Log level logger said) before = before
 clockBy (Line c line) before = before
 
 -- "the device's clock": the last tick that returned 0, else 0
-unfoldable pub clockOf : List ℕ → List Call → ℕ
-clockOf bytes [] = 0
-clockOf bytes (call ∷ h) = cond (returnedZero bytes h call) (clockBy (call .action) (clockOf bytes h)) (clockOf bytes h)
+unfoldable pub clockOf : Start → List Call → ℕ
+clockOf start [] = 0
+clockOf start (call ∷ h) = cond (returnedZero start h call) (clockBy (call .action) (clockOf start h)) (clockOf start h)
 
 -- Two devices.
 
@@ -245,46 +259,46 @@ pub record Device : Type 0 where
   pub calls : List Call
   pub archive : ℕ
 
-module _ (bytes : List ℕ) (d : Device) where
+module _ (start : Start) (d : Device) where
   -- its calls, the latest first
   abbrev pub history : List Call
   history = reverse (d .calls)
 
   -- its archive is connected at the end
   abbrev pub archiveConnected : Bool
-  archiveConnected = connectedAtEnd bytes (d .archive) history
+  archiveConnected = connectedAtEnd start (d .archive) history
 
   -- the bytes of its archive's lines, one line after another
   abbrev pub archived : List ℕ
-  archived = joined (linesOf bytes (d .archive) history)
+  archived = joined (linesOf start (d .archive) history)
 
   -- its archive's messages
   abbrev pub messages : List Message
-  messages = messagesOf bytes (d .archive) history
+  messages = messagesOf start (d .archive) history
 
   -- the strategy and parameters of a sensor
   abbrev pub strategy : ℕ → Strategy
-  strategy j = strategyOf bytes (d .archive) j history
+  strategy j = strategyOf start (d .archive) j history
 
   -- its last report
   abbrev pub report : ℕ → Option Told
-  report j = lastReport (sheetOf bytes) j (linesOf bytes (d .archive) history)
+  report j = lastReport (sheetOf start) j (linesOf start (d .archive) history)
 
   -- its present reading
   abbrev pub reading : ℕ → Sample
-  reading j = sampleFrom (sensorOf (sheetOf bytes) j) (lastReading bytes j history)
+  reading j = sampleFrom (sensorOf (sheetOf start) j) (lastReading start j history)
 
   -- the time of its present reading
   abbrev pub readingTime : ℕ → ℕ
-  readingTime j = timeFrom (lastReading bytes j history)
+  readingTime j = timeFrom (lastReading start j history)
 
   -- the clock
   abbrev pub clock : ℕ
-  clock = clockOf bytes history
+  clock = clockOf start history
 
   -- the state that the list ends with
   abbrev pub final : State
-  final = after bytes history
+  final = after start history
 
 -- "The shortest period has passed when the device's clock less the last report's is at least that period"; not without a report, and
 -- `was-reported` says that there is one
@@ -311,27 +325,27 @@ Alike n (EventRate shortest longest) passed x y = passed shortest → Equal n x 
 Alike n (DifferentialRate d shortest longest) passed x y = passed shortest → Within n d x y
 
 -- what two devices share of sensor j
-pub record Shared (bytes : List ℕ) (d e : Device) (j : ℕ) : Type 0 where
-  pub same-strategy : strategy bytes d j ≡ strategy bytes e j
-  pub same-report : report bytes d j ≡ report bytes e j
-  pub was-reported : isNone (strategy bytes d j) ≡ false → (r : Told) × (report bytes d j ≡ some r)
-  pub alike : Alike (sensorOf (sheetOf bytes) j) (strategy bytes d j)
-      (λ s. Passed s (clock bytes d) (report bytes d j) × Passed s (clock bytes e) (report bytes e j)) (reading bytes d j) (reading bytes e j)
+pub record Shared (start : Start) (d e : Device) (j : ℕ) : Type 0 where
+  pub same-strategy : strategy start d j ≡ strategy start e j
+  pub same-report : report start d j ≡ report start e j
+  pub was-reported : isNone (strategy start d j) ≡ false → (r : Told) × (report start d j ≡ some r)
+  pub alike : Alike (sensorOf (sheetOf start) j) (strategy start d j)
+      (λ s. Passed s (clock start d) (report start d j) × Passed s (clock start e) (report start e j)) (reading start d j) (reading start e j)
 
--- demand 3, for every sheet and every two lists
+-- demand 3, for every sheet, either profile and every two lists
 abbrev pub TwoDevices : Type 0
-TwoDevices = (bytes : List ℕ) (d e : Device) → archiveConnected bytes d ≡ true → archiveConnected bytes e ≡ true → archived bytes d ≡ archived bytes e
-    → (messages bytes d ≡ messages bytes e) × ((j : ℕ) → j < sheetOf bytes .count → Shared bytes d e j)
+TwoDevices = (start : Start) (d e : Device) → archiveConnected start d ≡ true → archiveConnected start e ≡ true → archived start d ≡ archived start e
+    → (messages start d ≡ messages start e) × ((j : ℕ) → j < sheetOf start .count → Shared start d e j)
 
 -- "The state a list ends with holds, for the archive and each sensor, that strategy, those parameters, that last report (none if there is none) and that present reading";
 -- the time of that reading too, and its clock is that of the list
-pub record Holds (bytes : List ℕ) (d : Device) (j : ℕ) : Type 0 where
-  pub strategy-held : pairOf (final bytes d) (d .archive) j .strategy ≡ strategy bytes d j
-  pub report-held : standing (sheetOf bytes) (final bytes d) (d .archive) j .last ≡ report bytes d j
-  pub reading-held : present (final bytes d) j ≡ reading bytes d j
-  pub time-held : storedOf (final bytes d) j .time ≡ readingTime bytes d j
-  pub clock-held : final bytes d .clock ≡ clock bytes d
+pub record Holds (start : Start) (d : Device) (j : ℕ) : Type 0 where
+  pub strategy-held : pairOf (final start d) (d .archive) j .strategy ≡ strategy start d j
+  pub report-held : standing (sheetOf start) (final start d) (d .archive) j .last ≡ report start d j
+  pub reading-held : present (final start d) j ≡ reading start d j
+  pub time-held : storedOf (final start d) j .time ≡ readingTime start d j
+  pub clock-held : final start d .clock ≡ clock start d
 
 -- for every device whose archive is connected at the end
 abbrev pub Held : Type 0
-Held = (bytes : List ℕ) (d : Device) → archiveConnected bytes d ≡ true → (j : ℕ) → j < sheetOf bytes .count → Holds bytes d j
+Held = (start : Start) (d : Device) → archiveConnected start d ≡ true → (j : ℕ) → j < sheetOf start .count → Holds start d j

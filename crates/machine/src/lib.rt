@@ -2,6 +2,7 @@
 use value::Limits;
 use value::Sample;
 ghost use mathlib.Core.Path.{_≡_};
+ghost use Rattle.machine.specs.Sheet.{single, lastClient};
 ghost use Rattle.machine.specs.State.{startLevel, noSubscription, blankClient};
 ghost use Rattle.machine.specs.Range.{isNone};
 
@@ -63,13 +64,14 @@ pub struct Sensor {
     pub options: [Choice; OPTIONS],
 }
 
-// The sheet that the unit was opened with: its first `count` sensors.
+// What the unit was opened with: the texts and the first `count` sensors of its sheet, and the profile, 1 for a single client.
 pub struct Sheet {
     pub api: [u8; TITLE],
     pub api_len: u8,
     pub build: [u8; TITLE],
     pub build_len: u8,
     pub count: u8,
+    pub profile: u8,
     pub sensors: [Sensor; SENSORS],
 }
 
@@ -153,6 +155,20 @@ pub enum Found {
 pub enum Cause {
     Tick,
     Reading(usize),
+}
+
+// Whether a profile is that of units with a single client.
+pub fn is_single(profile: u8) -> bool
+    ensures { λ r. ⌜ r ≡ single profile ⌝ }
+{
+    profile == 1
+}
+
+// The highest client of a profile.
+pub fn last_client(profile: u8) -> usize
+    ensures { λ r. ⌜ r ≡ lastClient profile ⌝ }
+{
+    if is_single(profile) { 0 } else { CLIENTS - 1 }
 }
 
 // The log level of a fresh device and of a restarted one: warn.
