@@ -29,10 +29,10 @@ row-declines (r ∷ rs) rest {n} e h = go (r .declines) e (λ f. row-declines rs
     go true e ih = e
     go false e ih = ih e
 
--- its number is below what all are below
-pub row-below : (k : ℕ) (rs : List Row) → 0 < k → Each (λ (r : Row). r .number < k) rs → rowsOr rs 0 < k
-row-below k [] z h = z
-row-below k (r ∷ rs) z h = cond-either (λ n. n < k) (r .declines) (r .number) (rowsOr rs 0) (h .0) (row-below k rs z (h .1))
+-- what holds of 0 and of each number holds of its number
+pub row-each : (P : ℕ → Type 0) (rs : List Row) → P 0 → Each (λ (r : Row). P (r .number)) rs → P (rowsOr rs 0)
+row-each P [] z h = z
+row-each P (r ∷ rs) z h = cond-either P (r .declines) (r .number) (rowsOr rs 0) (h .0) (row-each P rs z (h .1))
 
 -- none declines
 pub rows-pass : (rs : List Row) → Each (λ (r : Row). 0 < r .number) rs → rowsOr rs 0 ≡ 0 → Each (λ (r : Row). r .declines ≡ false) rs

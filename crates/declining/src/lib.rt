@@ -33,12 +33,19 @@ pub fn rows(in_range: bool, room: usize, halted: bool, own: u8) -> u8
     if halted { 3 } else { own }
 }
 
-// Rows 5 and 6, and then those behind them.
-pub fn client_rows(refused: bool, client: usize, own: u8) -> u8
-    ensures { λ r. ⌜ r ≡ calls.clientDeclined refused client own ⌝ }
+// The number for a client above the highest of a profile.
+fn above_last(profile: u8) -> u8
+    ensures { λ r. ⌜ r ≡ calls.aboveLast profile ⌝ }
 {
-    if 7 < client {
-        return 5;
+    if machine::is_single(profile) { 32 } else { 5 }
+}
+
+// Row 5, or under profile 1 row 32 in its place; row 6, and then those behind them.
+pub fn client_rows(profile: u8, refused: bool, client: usize, own: u8) -> u8
+    ensures { λ r. ⌜ r ≡ calls.clientDeclined profile refused client own ⌝ }
+{
+    if machine::last_client(profile) < client {
+        return above_last(profile);
     }
     if refused { 6 } else { own }
 }

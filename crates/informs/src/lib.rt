@@ -46,6 +46,24 @@ fn deliver_device(
     p + n
 }
 
+// The inform on the protocol and its version under a profile.
+fn deliver_protocol(
+    out: &mut [u8],
+    at: usize,
+    client: u8,
+    name: &[u8],
+    id: u64,
+    profile: u8,
+) -> usize
+    ensures { λ r. ⌜ Sent (output (now (out .entry)) at) (to client (messages.informWith id (now (name .entry)) (messages.protocolArgs profile)) ∷ []) (output (now (out .exit)) r) ⌝ }
+{
+    let part = b"katcp-protocol";
+    if machine::is_single(profile) {
+        return message::deliver_two(out, at, client, b'#', name, id, part, b"5.1-IB");
+    }
+    message::deliver_two(out, at, client, b'#', name, id, part, b"5.1-MIB")
+}
+
 // Protocol and device with their versions, two informs of one name to a client.
 pub fn deliver_versions(
     out: &mut [u8],
@@ -55,18 +73,9 @@ pub fn deliver_versions(
     id: u64,
     sheet: Sheet,
 ) -> usize
-    ensures { λ r. ⌜ Sent (output (now (out .entry)) at) (to client (messages.informWith id (now (name .entry)) messages.protocolArgs) ∷ to client (messages.informWith id (now (name .entry)) (messages.deviceArgs sheet)) ∷ []) (output (now (out .exit)) r) ⌝ }
+    ensures { λ r. ⌜ Sent (output (now (out .entry)) at) (to client (messages.informWith id (now (name .entry)) (messages.protocolArgs (sheet .profile))) ∷ to client (messages.informWith id (now (name .entry)) (messages.deviceArgs sheet)) ∷ []) (output (now (out .exit)) r) ⌝ }
 {
-    let p = message::deliver_two(
-        out,
-        at,
-        client,
-        b'#',
-        name,
-        id,
-        b"katcp-protocol",
-        b"5.1-MIB",
-    );
+    let p = deliver_protocol(out, at, client, name, id, sheet.profile);
     deliver_device(out, p, client, name, id, sheet)
 }
 

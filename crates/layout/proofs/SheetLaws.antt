@@ -15,15 +15,15 @@ use Rattle.layout.proofs.TakenLaws.{Spans}
 use Rattle.layout.proofs.ManyLaws.{Progress, all-read, all-counted, all-stored}
 
 pub sensors-there : (n : Sheet) {s rest : List ℕ} {ns : List Sensor} {count k : ℕ} → Progress sensorAt blankSensor 32 count s ns rest k → count ≤ k
-    → taken (record { api = n .api; «api_len» = n .«api_len»; build = n .build; «build_len» = n .«build_len»; count = count; sensors = ns }) rest ≡ takenSensors n (manyAt sensorAt count s)
+    → taken (record { api = n .api; «api_len» = n .«api_len»; build = n .build; «build_len» = n .«build_len»; count = count; profile = n .profile; sensors = ns }) rest ≡ takenSensors n (manyAt sensorAt count s)
 sensors-there n f h = rw (all-read f h, all-stored f h, all-counted f h)
 
 module _ {s x : List ℕ} {a b d e : ℕ} (f : Spans s 32 x a b) (g : Spans s 32 (drop b s) d e) {k : ℕ} {rest : List ℕ} (h : byteAt (drop e s) ≡ taken k rest) where
-  pub body-there : k ≤ 32 → {api build : List ℕ} → api ≡ padded 32 (take (b - a) (drop a s)) → build ≡ padded 32 (take (e - d) (drop d s))
-      → andThen (manyAt sensorAt k rest) (λ ns o. taken (record { api = api; «api_len» = b - a; build = build; «build_len» = e - d; count = length ns; sensors = ns ++ replicate (32 - length ns) blankSensor }) o)
+  pub body-there : k ≤ 32 → {api build : List ℕ} → api ≡ padded 32 (take (b - a) (drop a s)) → build ≡ padded 32 (take (e - d) (drop d s)) → {profile : ℕ} → profile ≡ 0
+      → andThen (manyAt sensorAt k rest) (λ ns o. taken (record { api = api; «api_len» = b - a; build = build; «build_len» = e - d; count = length ns; profile = profile; sensors = ns ++ replicate (32 - length ns) blankSensor }) o)
       ≡ bodyAt x
   unfolding bodyAt
-  body-there l p q = rw (f .text, g .text, h, le-leb k 32 l, p, q, f .long, g .long)
+  body-there l p q z = rw (f .text, g .text, h, le-leb k 32 l, p, q, z, f .long, g .long)
 
   pub body-many : 32 < k → bodyAt x ≡ broken
   unfolding bodyAt

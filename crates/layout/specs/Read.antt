@@ -73,7 +73,7 @@ takenLimits n r = andThen r (λ l rest. taken (withLimits n l) rest)
 
 -- the sheet with sensors
 abbrev pub withSensors : Sheet → List Sensor → Sheet
-withSensors sheet ns = record { api = sheet .api; «api_len» = sheet .«api_len»; build = sheet .build; «build_len» = sheet .«build_len»; count = length ns; sensors = ns ++ replicate (32 - length ns) blankSensor }
+withSensors sheet ns = record { api = sheet .api; «api_len» = sheet .«api_len»; build = sheet .build; «build_len» = sheet .«build_len»; count = length ns; profile = sheet .profile; sensors = ns ++ replicate (32 - length ns) blankSensor }
 
 -- a sheet with the sensors that were read
 abbrev pub takenSensors : Sheet → Taken (List Sensor) → Taken Sheet

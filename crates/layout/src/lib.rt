@@ -111,6 +111,7 @@ pub fn blank_sheet() -> Sheet
         build: [0; machine::TITLE],
         build_len: 0,
         count: 0,
+        profile: 0,
         sensors: [blank_sensor(); machine::SENSORS],
     }
 }

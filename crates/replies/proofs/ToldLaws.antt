@@ -2,10 +2,10 @@
 use Prim.Native.Nat.{ℕ, _+_, _<_, _≤_}
 use native.Mathlib.Omega.{arith}
 use native.Mathlib.Numerals.{add-one}
-use mathlib.Core.Path.{_≡_, refl}
+use mathlib.Core.Path.{_≡_, refl, sym, _∙_}
 use mathlib.Core.Bool.{Bool, true, false}
 use mathlib.Core.List.{List, [], _∷_, map, map-append}
-use lib.ListN.{length, getD, length-append}
+use lib.ListN.{length, getD, length-append, length-map}
 use Rattle.output.specs.Output.{Output}
 use Rattle.message.specs.Message.{Message}
 use Rattle.message.specs.Delivery.{to, Sent}
@@ -13,9 +13,9 @@ use Rattle.message.proofs.DeliveryLaws.{and, none-sent}
 use Rattle.machine.specs.declared.Client.{Client}
 use Rattle.machine.specs.Places.{gather, oneIf}
 use Rattle.machine.specs.State.{noClient, addressOf}
-use Rattle.machine.specs.Messages.{clientInform, countReply, countedAnswer, allTo}
+use Rattle.machine.specs.Messages.{clientInform, helpInform, countReply, countedAnswer, allTo}
 use Rattle.machine.proofs.PlacesLaws.{gather-length}
-use Rattle.machine.specs.Requests.{addressesBelow}
+use Rattle.machine.specs.Requests.{Row, addressesBelow}
 use Rattle.replies.specs.Asking.{asking}
 
 -- the informs, then the reply with their count
@@ -23,6 +23,12 @@ pub counted : {p q r : Output} {c id n : ℕ} {name : List ℕ} (informs : List 
     → Sent p (allTo c informs) q → Sent q (to c (countReply (asking name id) n) ∷ []) r → n ≡ length informs → Sent p (countedAnswer c (asking name id) informs) r
 unfolding countedAnswer
 counted informs e f h = and e (rw h at f)
+
+-- the same where as many were counted as there are rows
+pub counted-rows : {p q r : Output} {c id n : ℕ} {name : List ℕ} (rows : List Row)
+    → Sent p (allTo c (map (helpInform id) (map (λ (w : Row). w .name) rows))) q → Sent q (to c (countReply (asking name id) n) ∷ []) r → n ≡ length rows
+    → Sent p (countedAnswer c (asking name id) (map (helpInform id) (map (λ (w : Row). w .name) rows))) r
+counted-rows rows e f h = counted _ e f (h ∙ sym (length-map (map (λ (w : Row). w .name) rows) _ ∙ length-map rows _))
 
 one-most : {A : Type 0} (is : Bool) (x : A) → length (oneIf is x) ≤ 1
 one-most true x = omega arith

@@ -6,17 +6,19 @@ use machine::Sensor;
 use machine::Sheet;
 use machine::Strategy;
 ghost use mathlib.Core.Path.{_≡_};
+ghost use mathlib.Core.Bool.{cond};
 ghost use mathlib.Core.List.{[], _∷_, map};
+ghost use mathlib.Core.Option.{some};
 ghost use Prim.Native.Nat.{_+_, _<_};
 ghost use lib.ListN.{length};
 ghost use Rattle.output.specs.Output.{output, Wrote};
 ghost use Rattle.message.specs.Message.{arg, argsText, write, line};
 ghost use Rattle.message.specs.Delivery.{to, Sent};
 ghost use Rattle.machine.specs.Places.{oneIf, tabulate};
-ghost use Rattle.machine.specs.Sheet.{optionOf};
+ghost use Rattle.machine.specs.Sheet.{single, optionOf};
 ghost use Rattle.machine.specs.State.{addressOf};
 ghost use Rattle.machine.specs.Messages as messages;
-ghost use Rattle.machine.specs.Requests.{Row, requests, requestNamed, found, addressesBelow};
+ghost use Rattle.machine.specs.Requests.{Row, requestNamed, found, shownRows, addressesBelow};
 ghost use Rattle.machine.specs.Declined.{countFits};
 ghost use Rattle.replies.specs.Asking.{asking, namesTold};
 
@@ -30,12 +32,22 @@ pub struct Told {
 const REQUESTS: [u8; 102] =
     *b"client-list|halt|help|log-level|restart|sensor-list|sensor-sampling|sensor-value|version-list|watchdog";
 
-// The request of a name.
-pub fn request_named(name: &[u8]) -> Found
-    ensures { λ r. ⌜ r ≡ found (requestNamed (now (name .entry))) ⌝ }
+// `client-list`, which units with a single client do not have.
+fn client_list_under(profile: u8) -> Found
+    ensures { λ r. ⌜ r ≡ found profile (some Request.ClientList) ⌝ }
+{
+    if machine::is_single(profile) {
+        return Found::Unknown;
+    }
+    Found::Is(Request::ClientList)
+}
+
+// The request of a name under a profile.
+pub fn request_named(profile: u8, name: &[u8]) -> Found
+    ensures { λ r. ⌜ r ≡ found profile (requestNamed (now (name .entry))) ⌝ }
 {
     match texts::place_of(&REQUESTS, name) {
-        0 => Found::Is(Request::ClientList),
+        0 => client_list_under(profile),
         1 => Found::Is(Request::Halt),
         2 => Found::Is(Request::Help),
         3 => Found::Is(Request::LogLevel),
@@ -219,35 +231,58 @@ fn tell_request(out: &mut [u8], at: usize, client: u8, id: u64, request: &[u8]) 
     message::deliver_two(out, at, client, b'#', b"help", id, request, request)
 }
 
-// What it tells of all.
-fn tell_requests(out: &mut [u8], client: u8, id: u64) -> usize
-    ensures { λ r. ⌜ Sent (output (now (out .entry)) 0) (messages.allTo client (map (messages.helpInform id) (map (λ (r : Row). r .name) requests))) (output (now (out .exit)) r) ⌝ }
+// The first place of the table that a profile has: `client-list` is at place 0.
+fn first_request(profile: u8) -> usize
+    ensures { λ r. ⌜ r ≡ cond (single profile) 1 0 ⌝ }
 {
-    let count = texts::word_count(&REQUESTS);
+    if machine::is_single(profile) {
+        return 1;
+    }
+    0
+}
+
+// What it tells of all that a profile has, and how many they are.
+fn tell_requests(out: &mut [u8], client: u8, id: u64, profile: u8) -> Told
+    ensures { λ r. ⌜ Sent (output (now (out .entry)) 0) (messages.allTo client (map (messages.helpInform id) (map (λ (r : Row). r .name) (shownRows profile)))) (output (now (out .exit)) (r .at)) ⌝ }
+    ensures { λ r. ⌜ r .count ≡ length (shownRows profile) ⌝ }
+{
+    let most = texts::word_count(&REQUESTS);
+    let first = first_request(profile);
     let mut at: usize = 0;
-    let mut k: usize = 0;
-    while k < count {
+    let mut k: usize = first;
+    while k < most {
         at = tell_request(out, at, client, id, texts::word_of(&REQUESTS, k));
         k += 1;
     }
-    at
+    Told {
+        at: at,
+        count: k - first,
+    }
 }
 
-// `help`: the request that is named, or all.
-pub fn help(out: &mut [u8], client: u8, name: &[u8], id: u64, named: bool, request: &[u8]) -> usize
-    ensures { λ r. ⌜ Sent (output (now (out .entry)) 0) (messages.countedAnswer client (asking (now (name .entry)) id) (map (messages.helpInform id) (namesTold named (now (request .entry))))) (output (now (out .exit)) r) ⌝ }
+// `help`: the request that is named, or all that a profile has.
+pub fn help(
+    out: &mut [u8],
+    client: u8,
+    name: &[u8],
+    id: u64,
+    profile: u8,
+    named: bool,
+    request: &[u8],
+) -> usize
+    ensures { λ r. ⌜ Sent (output (now (out .entry)) 0) (messages.countedAnswer client (asking (now (name .entry)) id) (map (messages.helpInform id) (namesTold profile named (now (request .entry))))) (output (now (out .exit)) r) ⌝ }
 {
     if named {
         let p = tell_request(out, 0, client, id, request);
         return deliver_count(out, p, client, name, id, 1);
     }
-    let p = tell_requests(out, client, id);
-    deliver_count(out, p, client, name, id, texts::word_count(&REQUESTS))
+    let told = tell_requests(out, client, id, profile);
+    deliver_count(out, told.at, client, name, id, told.count)
 }
 
 // `version-list`: what a newcomer is told.
 pub fn version_list(out: &mut [u8], client: u8, name: &[u8], id: u64, sheet: Sheet) -> usize
-    ensures { λ r. ⌜ Sent (output (now (out .entry)) 0) (messages.countedAnswer client (asking (now (name .entry)) id) (map (messages.versionInform id) (messages.protocolArgs ∷ messages.deviceArgs sheet ∷ []))) (output (now (out .exit)) r) ⌝ }
+    ensures { λ r. ⌜ Sent (output (now (out .entry)) 0) (messages.countedAnswer client (asking (now (name .entry)) id) (map (messages.versionInform id) (messages.protocolArgs (sheet .profile) ∷ messages.deviceArgs sheet ∷ []))) (output (now (out .exit)) r) ⌝ }
 {
     let p = informs::deliver_versions(out, 0, client, b"version-list", id, sheet);
     deliver_count(out, p, client, name, id, 2)

@@ -48,7 +48,7 @@ options-long n vs h k l =
 -- the names of a sheet's sensors
 pub names-long : (sheet : Sheet) (vs : List Val) → shadow (declared.row sheet-type .own sheet vs) → (j : ℕ) → j < 32 → length (sensorOf sheet j .name) ≡ 32
 names-long sheet vs h j l =
-    let f = h .1 .1 .1 .1 .1 .1 .1 .0 in
+    let f = h .1 .1 .1 .1 .1 .1 .1 .1 .0 in
     let e : length (sheet .sensors) ≡ 32 = simp length-map at (f .1 .0 .1) in
     let g = element-of _ _ _ (sheet .sensors) (f .0) j noSensor (f .1 .1) (omega arith) in
     search needs

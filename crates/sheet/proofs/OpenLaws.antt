@@ -1,5 +1,5 @@
 -- What opening answers, by what was read of the bytes.
-use Prim.Native.Nat.{ℕ, _-_}
+use Prim.Native.Nat.{ℕ, _-_, _≤_, _<_}
 use native.Mathlib.Omega.{arith}
 use mathlib.Core.Path.{_≡_, refl, sym, ap, _∙_}
 use mathlib.Core.Bool.{Bool, true, false, cond, _&&_}
@@ -17,45 +17,55 @@ use Rattle.machine.specs.declared.State.{State}
 use Rattle.machine.specs.Sheet.{titlesOk, sensorsOk, sheetOk}
 use Rattle.machine.specs.State.{fresh}
 use Rattle.machine.specs.Range.{inRange}
-use Rattle.machine.specs.Opening.{taken, sheetAt, refused, accepted, opened}
+use Rattle.machine.specs.Opening.{taken, sheetAt, startOf, withProfile, notOpened, accepted, opened}
 use Rattle.layout.specs.declared.SheetTaken.{SheetTaken}
 use Rattle.layout.specs.Read.{sheetOf}
 
--- a fresh state is in range just where its sheet keeps its rules
-fresh-in-range : (sheet : Sheet) → inRange (fresh sheet) ≡ sheetOk sheet
+-- a fresh state of a profile is in range just where its sheet keeps its rules
+fresh-in-range : (sheet : Sheet) → sheet .profile ≤ 1 → inRange (fresh sheet) ≡ sheetOk sheet
 unfolding sheetOk
-fresh-in-range sheet = test-same _ _
+fresh-in-range sheet l = test-same _ _
     (λ h. let r = range-out (fresh sheet) h in and-in (titlesOk sheet) (sensorsOk sheet) (titled (fresh sheet) r refl) (r .sensors-in))
-    (λ h. range-of (fresh sheet) (fresh-range sheet h))
+    (λ h. range-of (fresh sheet) (fresh-range sheet h l))
 
-module _ (s : List ℕ) (r : SheetTaken) (read : sheetOf s r ≡ sheetAt s) where
-  -- bytes that are no sheet are refused
-  pub open-broken : r .taken ≡ false → opened s ≡ refused
+module _ (profile : ℕ) (s : List ℕ) where
+  -- a profile that there is not
+  pub open-neither : 1 < profile → opened (startOf profile s) ≡ notOpened 31
   unfolding opened
-  open-broken t = ap accepted (sym (rw t at read))
+  open-neither h = rw (lt-leb profile 1 h)
 
-  module _ (t : r .taken ≡ true) (state : State) (new : state ≡ fresh (r .sheet)) (kept : Bool) (k : kept ≡ inRange state) where
-    -- nothing follows, and the state is in range
-    abbrev good : Bool
-    good = leb (length s) (r .behind .at) && kept
-
-    -- what opening then answers
-    abbrev first : Opened
-    first = record { number = 0; state = state }
-
-    -- else that test decides
-    by-rest : opened s ≡ cond good first refused
+  module _ (l : profile ≤ 1) (r : SheetTaken) (read : sheetOf s r ≡ sheetAt s) where
+    -- the bytes decide
+    by-bytes : opened (startOf profile s) ≡ accepted profile (sheetOf s r)
     unfolding opened
-    by-rest = ap accepted (sym (rw t at read)) ∙ go (drop (r .behind .at) s) (length-drop (r .behind .at) s)
-      where
-        go : (rest : List ℕ) → length rest ≡ length s - r .behind .at → accepted (taken (r .sheet) rest) ≡ cond good first refused
-        go [] l = rw (k, new, fresh-in-range (r .sheet), le-leb (length s) (r .behind .at) (omega arith))
-        go (b ∷ rest) l = rw (lt-leb (length s) (r .behind .at) (omega arith))
+    by-bytes = rw (le-leb profile 1 l) (ap (accepted profile) (sym read))
 
-    -- it holds
-    pub open-good : good ≡ true → opened s ≡ first
-    open-good h = by-rest ∙ cond-true good first refused h
+    -- bytes that are no sheet are refused
+    pub open-broken : r .taken ≡ false → opened (startOf profile s) ≡ notOpened 4
+    open-broken t = by-bytes ∙ rw t
 
-    -- it fails
-    pub open-faulty : good ≡ false → opened s ≡ refused
-    open-faulty h = by-rest ∙ cond-false good first refused h
+    module _ (t : r .taken ≡ true) (state : State) (new : state ≡ fresh (withProfile (r .sheet) profile)) (kept : Bool) (k : kept ≡ inRange state) where
+      -- nothing follows, and the state is in range
+      abbrev good : Bool
+      good = leb (length s) (r .behind .at) && kept
+
+      -- what opening then answers
+      abbrev first : Opened
+      first = record { number = 0; state = state }
+
+      -- else that test decides
+      by-rest : opened (startOf profile s) ≡ cond good first (notOpened 4)
+      unfolding sheetOk titlesOk sensorsOk
+      by-rest = by-bytes ∙ rw t (go (drop (r .behind .at) s) (length-drop (r .behind .at) s))
+        where
+          go : (rest : List ℕ) → length rest ≡ length s - r .behind .at → accepted profile (taken (r .sheet) rest) ≡ cond good first (notOpened 4)
+          go [] e = rw (k, new, fresh-in-range (withProfile (r .sheet) profile) l, le-leb (length s) (r .behind .at) (omega arith))
+          go (b ∷ rest) e = rw (lt-leb (length s) (r .behind .at) (omega arith))
+
+      -- it holds
+      pub open-good : good ≡ true → opened (startOf profile s) ≡ first
+      open-good h = by-rest ∙ cond-true good first (notOpened 4) h
+
+      -- it fails
+      pub open-faulty : good ≡ false → opened (startOf profile s) ≡ notOpened 4
+      open-faulty h = by-rest ∙ cond-false good first (notOpened 4) h

@@ -92,25 +92,30 @@ fn blank_state() -> State
     }
 }
 
-fn refused() -> Opened
-    ensures { λ r. ⌜ r ≡ opening.refused ⌝ }
+fn not_opened(number: u8) -> Opened
+    ensures { λ r. ⌜ r ≡ opening.notOpened number ⌝ }
 {
     Opened {
-        number: 4,
+        number: number,
         state: blank_state(),
     }
 }
 
-// Number 0 and the fresh state of a sheet, or 4 and the blank state where the bytes are no sheet. A fresh state is in range just where its
-// sheet keeps its rules, so the check of a state is the check of a sheet too.
-pub fn open(sheet: &[u8]) -> Opened
-    ensures { λ r. ⌜ r ≡ opening.opened (now (sheet .entry)) ⌝ }
+// Number 0 and the fresh state of a sheet under a profile; 4 and the blank state where the bytes are no sheet; before it 31 and the blank state
+// where there is no such profile. A fresh state is in range just where its sheet keeps its rules, so the check of a state is the check of a sheet
+// too.
+pub fn open(profile: u8, sheet: &[u8]) -> Opened
+    ensures { λ r. ⌜ r ≡ opening.opened (opening.startOf profile (now (sheet .entry))) ⌝ }
 {
+    if 1 < profile {
+        return not_opened(31);
+    }
     let r = layout::sheet_at(sheet);
     if !r.taken {
-        return refused();
+        return not_opened(4);
     }
-    let whole = r.sheet;
+    let mut whole = r.sheet;
+    whole.profile = profile;
     let last = r.behind;
     let ended = sheet.len() <= last.at;
     let state = fresh_state(whole);
@@ -120,7 +125,7 @@ pub fn open(sheet: &[u8]) -> Opened
             state: state,
         };
     }
-    refused()
+    not_opened(4)
 }
 
 // A stored number of a valid value of a type.
@@ -205,6 +210,20 @@ fn no_clients(clients: [Client; machine::CLIENTS]) -> bool
     while c < machine::CLIENTS {
         let client = clients[c];
         ok = ok & !client.connected;
+        c += 1;
+    }
+    ok
+}
+
+// No client above the highest of its profile is connected.
+fn clients_within(last: usize, clients: [Client; machine::CLIENTS]) -> bool
+    ensures { λ r. ⌜ r ≡ ranges.clientsWithin last clients ⌝ }
+{
+    let mut ok = true;
+    let mut c: usize = 0;
+    while c < machine::CLIENTS {
+        let client = clients[c];
+        ok = ok & ((c <= last) | !client.connected);
         c += 1;
     }
     ok
@@ -311,11 +330,16 @@ pub fn in_range(s: State) -> bool
     let alone = no_clients(connections);
     // what, in range, only the blank state has
     let blank = untitled
-        & ((sheet.count == 0) & (alone & (s.halted & ((s.level == 0) & (s.clock == 0)))));
+        & ((sheet.count == 0)
+            & ((sheet.profile == 0) & (alone & (s.halted & ((s.level == 0) & (s.clock == 0))))));
+    let within = clients_within(machine::last_client(sheet.profile), connections);
+    let profile = (sheet.profile <= 1) & within;
     let readings = readings_ok(sheet.count, s.clock, sensors, stored);
     let clients = clients_ok(connections);
     let pairs = pairs_ok(sheet.count, s.clock, sensors, connections, subscriptions);
     (titles | blank)
-        & (sensors.ok
-            & ((s.clock <= value::LAST_TIME) & ((s.level <= 7) & (readings & (clients & pairs)))))
+        & (profile
+            & (sensors.ok
+                & ((s.clock <= value::LAST_TIME)
+                    & ((s.level <= 7) & (readings & (clients & pairs))))))
 }

@@ -7,7 +7,7 @@ use Rattle.informs.proofs.deliver_versions.Tie as tie
 returns : tie.Need-returns
 returns c =
     let c0 = c .before .before in let c1 = c0 .before .before .before .before in
-    and (c1 .deliver-two .ensures) (c0 .deliver-device .ensures)
+    and (c1 .deliver-protocol .ensures) (c0 .deliver-device .ensures)
 
 pub deliver-versions-spec : {M : Type 1} → statement M
-deliver-versions-spec = tie.close (tie.spec (λ c. search needs) (λ c. search needs) (λ c κs. search needs) (λ c κs. search needs) (λ c. kept (returns c)) returns)
+deliver-versions-spec = tie.close (tie.spec (λ c κs. search needs) (λ c κs. search needs) (λ c. kept (returns c)) returns)

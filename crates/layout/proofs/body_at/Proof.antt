@@ -1,8 +1,9 @@
 -- Two texts and a sensor count, each read behind the one before, and so many sensors.
 use borrow.Author.Needs.{needs}
 use native.Mathlib.Omega.{arith}
-use mathlib.Core.Path.{_∙_}
+use mathlib.Core.Path.{ap, _∙_}
 use lib.ListN.{drop}
+use Rattle.machine.specs.declared.Sheet.{Sheet}
 use Rattle.machine.specs.Opening.{bodyAt}
 use Rattle.layout.specs.Read.{byteOf, textOf}
 use Rattle.layout.proofs.TakenLaws.{told, Spans, spans}
@@ -32,7 +33,7 @@ returns-4 : tie.Need-returns-4
 returns-4 c = let c1 = c .before .before .before in let c2 = c1 .before .before in let c3 = c2 .before in let c4 = c3 .before .before .before .before in let c5 = c4 .before .before .before in let c6 = c5 .before .before in rw (c .no-sheet4 .ensures, body-many (span1 c4) (span2 c3) (told (byteOf (c6 .args .s .now)) (c1 .count .given .1) (c2 .byte-at .ensures)) (omega arith))
 
 returns-5 : tie.Need-returns-5
-returns-5 c = let c1 = c .before .before .before .before in let c2 = c1 .before .before .before .before in let c3 = c2 .before .before in let c4 = c3 .before in let c5 = c4 .before .before .before .before in let c6 = c5 .before .before .before in let c7 = c6 .before .before in c .sensors-at .ensures ∙ body-there (span1 c5) (span2 c4) (told (byteOf (c7 .args .s .now)) (c2 .count .given .1) (c3 .byte-at .ensures)) (omega arith) (c1 .padded-32 .ensures) (c .before .before .padded-322 .ensures)
+returns-5 c = let c1 = c .before .before .before .before in let c2 = c1 .before .before .before .before in let c3 = c2 .before .before in let c4 = c3 .before in let c5 = c4 .before .before .before .before in let c6 = c5 .before .before .before in let c7 = c6 .before .before in c .sensors-at .ensures ∙ body-there (span1 c5) (span2 c4) (told (byteOf (c7 .args .s .now)) (c2 .count .given .1) (c3 .byte-at .ensures)) (omega arith) (c1 .padded-32 .ensures) (c .before .before .padded-322 .ensures) (ap (λ (x : Sheet). x .profile) (c .before .blank-sheet .ensures))
 
 pub body-at-spec : {M : Type 1} → statement M
 body-at-spec =
