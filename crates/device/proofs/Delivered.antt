@@ -7,7 +7,7 @@ use lib.Seq.{take-append-seam}
 use Rattle.machine.specs.declared.State.{State}
 use Rattle.machine.specs.declared.Answer.{Answer}
 use Rattle.machine.specs.declared.Opened.{Opened}
-use Rattle.machine.specs.Opening.{opened}
+use Rattle.machine.specs.Opening.{Start, opened}
 use Rattle.machine.specs.Declined.{Call}
 use Rattle.machine.specs.Machine.{step, written}
 use Rattle.machine.specs.TwoDevices.{after, returned}
@@ -32,14 +32,14 @@ run-is s (call ∷ calls) (r ∷ rs) d =
     let rest : map seen rs ≡ map shown (run (step s call .next) calls) = run-is (step s call .next) calls rs (subst (λ (t : State). Driven t calls rs) next (d .1)) in
     rw (promised s call r (d .0), rest)
 
-returns-are : (bytes : List ℕ) (h calls : List Call) (rs : List Return) → Driven (after bytes h) calls rs → rs ≡ returns bytes h calls
+returns-are : (start : Start) (h calls : List Call) (rs : List Return) → Driven (after start h) calls rs → rs ≡ returns start h calls
 unfolding after
-returns-are bytes h [] [] d = refl
-returns-are bytes h [] (r ∷ rs) d = absurd d
-returns-are bytes h (call ∷ calls) [] d = absurd d
-returns-are bytes h (call ∷ calls) (r ∷ rs) d =
-    let next : r .answer .state ≡ returned bytes h call .state = ap (λ (a : Answer). a .state) (d .0 .answer-is) in
-    let rest : rs ≡ returns bytes (call ∷ h) calls = returns-are bytes (call ∷ h) calls rs (subst (λ (t : State). Driven t calls rs) next (d .1)) in
+returns-are start h [] [] d = refl
+returns-are start h [] (r ∷ rs) d = absurd d
+returns-are start h (call ∷ calls) [] d = absurd d
+returns-are start h (call ∷ calls) (r ∷ rs) d =
+    let next : r .answer .state ≡ returned start h call .state = ap (λ (a : Answer). a .state) (d .0 .answer-is) in
+    let rest : rs ≡ returns start (call ∷ h) calls = returns-are start (call ∷ h) calls rs (subst (λ (t : State). Driven t calls rs) next (d .1)) in
     joined (both r (d .0 .answer-is) (d .0 .output-is)) rest
   where
     joined : {r q : Return} {rs qs : List Return} → r ≡ q → rs ≡ qs → _≡_ {A = List Return} (r ∷ rs) (q ∷ qs)
@@ -47,6 +47,6 @@ returns-are bytes h (call ∷ calls) (r ∷ rs) d =
 
 pub delivered : Delivered
 unfolding after
-delivered bytes o e calls rs d =
-    let driven : Driven (opened bytes .state) calls rs = subst (λ (x : Opened). Driven (x .state) calls rs) e d in
-    record { run-is = run-is (opened bytes .state) calls rs driven; returns-are = returns-are bytes [] calls rs driven }
+delivered start o e calls rs d =
+    let driven : Driven (opened start .state) calls rs = subst (λ (x : Opened). Driven (x .state) calls rs) e d in
+    record { run-is = run-is (opened start .state) calls rs driven; returns-are = returns-are start [] calls rs driven }

@@ -6,7 +6,7 @@ use lib.ListN.{take}
 use Rattle.machine.specs.declared.State.{State}
 use Rattle.machine.specs.declared.Answer.{Answer}
 use Rattle.machine.specs.declared.Opened.{Opened}
-use Rattle.machine.specs.Opening.{opened}
+use Rattle.machine.specs.Opening.{Start, opened}
 use Rattle.machine.specs.Declined.{Call}
 use Rattle.machine.specs.Machine.{Effect, step, written, answerOf, outputOf}
 use Rattle.machine.specs.TwoDevices.{returned, outputThen}
@@ -48,15 +48,15 @@ abbrev pub shown : Effect → Seen
 shown e = record { number = e .number; bytes = written e; state = e .next }
 
 -- what each call returns in the terms of "Two devices", after the calls h, the latest of these first
-abbrev pub returns : List ℕ → List Call → List Call → List Return
-returns bytes h [] = []
-returns bytes h (call ∷ calls) = record { answer = returned bytes h call; output = outputThen bytes h call } ∷ returns bytes (call ∷ h) calls
+abbrev pub returns : Start → List Call → List Call → List Return
+returns start h [] = []
+returns start h (call ∷ calls) = record { answer = returned start h call; output = outputThen start h call } ∷ returns start (call ∷ h) calls
 
 -- numbers, bytes and states are those of the machine's run, and demand 3 reads them off what the calls returned
-pub record Delivers (bytes : List ℕ) (calls : List Call) (rs : List Return) : Type 0 where
-  pub run-is : map seen rs ≡ map shown (run (opened bytes .state) calls)
-  pub returns-are : rs ≡ returns bytes [] calls
+pub record Delivers (start : Start) (calls : List Call) (rs : List Return) : Type 0 where
+  pub run-is : map seen rs ≡ map shown (run (opened start .state) calls)
+  pub returns-are : rs ≡ returns start [] calls
 
--- for every sheet, every list of calls and every lent output
+-- for every sheet, either profile, every list of calls and every lent output
 abbrev pub Delivered : Type 0
-Delivered = (bytes : List ℕ) (o : Opened) → o ≡ opened bytes → (calls : List Call) (rs : List Return) → Driven (o .state) calls rs → Delivers bytes calls rs
+Delivered = (start : Start) (o : Opened) → o ≡ opened start → (calls : List Call) (rs : List Return) → Driven (o .state) calls rs → Delivers start calls rs

@@ -4,6 +4,7 @@ use machine::Answer;
 use machine::Cause;
 use machine::Client;
 use machine::Opened;
+use machine::Sheet;
 use machine::State;
 use machine::Stored;
 use machine::Subscription;
@@ -13,27 +14,31 @@ use value::Sample;
 use value::Sampled;
 ghost use mathlib.Core.Path.{_≡_};
 ghost use mathlib.Core.Bool.{cond, _&&_};
-ghost use mathlib.Core.List.{[]};
+ghost use mathlib.Core.List.{[], _++_};
 ghost use Prim.Native.Nat.{_/_, _≤_, _<_};
 ghost use lib.Dec.{eqb, leb, ltb};
 ghost use lib.ListN.{length, getD};
 ghost use Rattle.output.specs.Output.{output};
 ghost use Rattle.output.specs.Read.{inTime};
-ghost use Rattle.message.specs.Delivery.{Sent};
+ghost use Rattle.message.specs.Delivery.{to, Sent};
 ghost use Rattle.value.specs.Answer.{sampledNumber};
-ghost use Rattle.machine.specs.Places.{tabulate};
-ghost use Rattle.machine.specs.Messages.{toWhere, logEntry};
+ghost use Rattle.machine.specs.Places.{tabulate, oneIf};
+ghost use Rattle.machine.specs.Messages.{toWhere, displaced, logEntry};
 ghost use Rattle.machine.specs.State as states;
 ghost use Rattle.machine.specs.Opening as opening;
 ghost use Rattle.machine.specs.Declined as calls;
-ghost use Rattle.machine.specs.Machine.{connectSends, step, answerOf, outputOf};
+ghost use Rattle.machine.specs.Machine.{greeting, connectSends, step, answerOf, outputOf};
 ghost use Rattle.device.specs.Parts.{readingsAfter};
 
-// Number 0 and the fresh state of a sheet, or 4 and the blank state where the bytes are no sheet.
-pub fn open(sheet: &[u8]) -> Opened
-    ensures { λ r. ⌜ r ≡ opening.opened (now (sheet .entry)) ⌝ }
+// The length of what stands before the address where a client is displaced.
+const DISPLACED: usize = 26;
+
+// Number 0 and the fresh state of a sheet under a profile, 0 for the eight clients, 1 for a single one; else the blank state, with 31 where there is
+// no such profile, and 4 where the bytes are no sheet.
+pub fn open(profile: u8, sheet: &[u8]) -> Opened
+    ensures { λ r. ⌜ r ≡ opening.opened (opening.startOf profile (now (sheet .entry))) ⌝ }
 {
-    sheet::open(sheet)
+    sheet::open(profile, sheet)
 }
 
 // Row 7.
@@ -165,9 +170,39 @@ fn with_client(number: u8, written: usize, s: State, client: usize, k: Client) -
     }
 }
 
+// What a client is told that another displaces, of the newcomer's address; nothing where there is none.
+fn displace(there: bool, client: u8, address: &[u8], out: &mut [u8]) -> usize
+    requires { ⌜ length (now address) ≤ 48 ⌝ }
+    ensures { λ r. ⌜ Sent (output (now (out .entry)) 0) (oneIf there (to client (displaced (now (address .entry))))) (output (now (out .exit)) r) ⌝ }
+{
+    if !there {
+        return 0;
+    }
+    let mut why = [0; DISPLACED + machine::ADDRESS];
+    let p = output::put_bytes(&mut why, 0, b"New client connected from ");
+    let n = output::put_bytes(&mut why, p, address);
+    message::deliver_one(out, 0, client, b'#', b"disconnect", 0, &why[..n])
+}
+
+// Under a single client's profile: the client that is there is displaced, and the newcomer told the versions.
+fn greet_single(
+    clients: [Client; machine::CLIENTS],
+    client: usize,
+    sheet: Sheet,
+    address: &[u8],
+    out: &mut [u8],
+) -> usize
+    requires { ⌜ (client < 8) × (length (now address) ≤ 48) ⌝ }
+    ensures { λ r. ⌜ Sent (output (now (out .entry)) 0) (oneIf (getD clients client states.noClient .connected) (to client (displaced (now (address .entry)))) ++ greeting sheet client) (output (now (out .exit)) r) ⌝ }
+{
+    let there = declining::is_connected(clients, client);
+    let at = displace(there, client as u8, address, out);
+    informs::deliver_versions(out, at, client as u8, b"version-connect", 0, sheet)
+}
+
 // What is written where a client connects: the versions to it, and its address to the others; nothing where the call is declined.
 fn greet(number: u8, state: State, client: usize, address: &[u8], out: &mut [u8]) -> usize
-    requires { ⌜ (number ≡ 0 → client < 8) ⌝ }
+    requires { ⌜ (number ≡ 0 → (client < 8) × (length (now address) ≤ 48)) ⌝ }
     ensures { λ r. ⌜ Sent (output (now (out .entry)) 0) (cond (eqb number 0) (connectSends (state .sheet) state client (now (address .entry))) []) (output (now (out .exit)) r) ⌝ }
 {
     if number != 0 {
@@ -175,21 +210,23 @@ fn greet(number: u8, state: State, client: usize, address: &[u8], out: &mut [u8]
     }
     let sheet = state.sheet;
     let clients = state.clients;
+    if machine::is_single(sheet.profile) {
+        return greet_single(clients, client, sheet, address, out);
+    }
     let at = informs::deliver_versions(out, 0, client as u8, b"version-connect", 0, sheet);
     informs::inform_others(out, at, clients, client, b"client-connected", address)
 }
 
-// A client connects: it is told the versions, and the others are told its address.
+// A client connects: it is told the versions, and the others are told its address. Under profile 1 it takes the place of the client that is there.
 pub fn connect(state: State, client: usize, address: &[u8], out: &mut [u8]) -> Answer
     ensures { λ r. ⌜ r ≡ answerOf (step state (calls.callOf (calls.Connect client (now (address .entry))) (now (out .entry)))) ⌝ }
     ensures { λ r. ⌜ now (out .exit) ≡ outputOf (step state (calls.callOf (calls.Connect client (now (address .entry))) (now (out .entry)))) (now (out .entry)) ⌝ }
 {
+    let sheet = state.sheet;
     let clients = state.clients;
-    let own = declining::client_rows(
-        declining::is_connected(clients, client),
-        client,
-        address_row(address),
-    );
+    let profile = sheet.profile;
+    let refused = declining::is_connected(clients, client) & !machine::is_single(profile);
+    let own = declining::client_rows(profile, refused, client, address_row(address));
     let number = declining::rows(sheet::in_range(state), out.len(), state.halted, own);
     let written = greet(number, state, client, address, out);
     with_client(number, written, state, client, newcomer(number, address))
@@ -201,7 +238,9 @@ pub fn disconnect(state: State, client: usize, out: &mut [u8]) -> Answer
     ensures { λ r. ⌜ now (out .exit) ≡ outputOf (step state (calls.callOf (calls.Disconnect client) (now (out .entry)))) (now (out .entry)) ⌝ }
 {
     let clients = state.clients;
-    let own = declining::client_rows(!declining::is_connected(clients, client), client, 0);
+    let sheet = state.sheet;
+    let refused = !declining::is_connected(clients, client);
+    let own = declining::client_rows(sheet.profile, refused, client, 0);
     let number = declining::rows(sheet::in_range(state), out.len(), state.halted, own);
     with_client(number, 0, state, client, machine::blank_client())
 }

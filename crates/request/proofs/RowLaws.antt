@@ -20,13 +20,13 @@ use Rattle.line.specs.Line.{blank, wordByte, word, words, behind, meant, escape
 use Rattle.line.specs.Argument as lines
 use Rattle.machine.specs.declared.Sheet.{Sheet}
 use Rattle.machine.specs.declared.Request.{Request}
-use Rattle.machine.specs.declared.Request.the-variants.{Help, LogLevel}
+use Rattle.machine.specs.declared.Request.the-variants.{LogLevel}
 use Rattle.machine.specs.declared.Found.{Found}
 use Rattle.machine.specs.Places.{any, twice, Each}
 use Rattle.machine.specs.Sheet.{placeOf, notOnSheet}
 use Rattle.machine.specs.State.{blankSheet}
-use Rattle.machine.specs.Requests.{Asks, argument, allPlaces, askedPlaces, requestNamed, found, foundNumber, levelOf, split, listed, strategyNamed, kindAsked, parametersOf, strategyMade}
-use Rattle.machine.specs.Declined.{countFits, placesDeclined, settingDeclined, samplingDeclined, argumentsDeclined, lineDeclined}
+use Rattle.machine.specs.Requests.{argument, allPlaces, askedPlaces, requestNamed, found, foundNumber, levelOf, split, listed, strategyNamed, kindAsked, parametersOf, strategyMade}
+use Rattle.machine.specs.Declined.{countFits, placesDeclined, helpDeclined, settingDeclined, samplingDeclined, argumentsDeclined, requestDeclined}
 use Rattle.machine.proofs.TestLaws.{cond-either, cond-true, cond-false, cond-ap}
 use Rattle.declining.proofs.RowsLaws.{Row, row, row-declines, rows-pass, rows-rest}
 use Rattle.names.specs.declared.Listed.{Listed}
@@ -137,9 +137,8 @@ module _ (line : List ℕ) (head : Header) (h : IsRead line head) where
   some-given : (head .count ≡ 0 → ⊥) → eqb (length (m .args)) 0 ≡ false
   some-given ne = ne-eqb (length (m .args)) 0 (λ e. ne (count-is line head h ∙ e))
 
-  pub help-all : head .count ≡ 0 → 0 ≡ argumentsDeclined blankSheet Help m
-  unfolding argumentsDeclined
-  help-all e = rw (none-given e)
+  pub help-all : (profile : ℕ) → head .count ≡ 0 → 0 ≡ cond (eqb (length (m .args)) 0) 0 (helpDeclined profile (requestNamed (argument m 0)))
+  help-all profile e = rw (none-given e)
 
   pub level-kept : (level : ℕ) → head .count ≡ 0 → level ≡ cond (eqb (length (m .args)) 0) level (levelOf (argument m 0))
   level-kept level e = rw (none-given e)
@@ -160,9 +159,9 @@ module _ (line : List ℕ) (head : Header) (h : IsRead line head) where
     given = q ∙ argument-is line head h 0
 
     module _ (ne : head .count ≡ 0 → ⊥) where
-      pub help-named : {f g : Found} → f ≡ found (requestNamed t) → f ≡ g → foundNumber 23 g ≡ argumentsDeclined blankSheet Help m
-      unfolding argumentsDeclined
-      help-named e u = rw (some-given ne, ← given) (ap (foundNumber 23) (sym u ∙ e))
+      pub help-named : (profile : ℕ) {f g : Found} → f ≡ found profile (requestNamed t) → f ≡ g
+          → foundNumber 23 g ≡ cond (eqb (length (m .args)) 0) 0 (helpDeclined profile (requestNamed (argument m 0)))
+      help-named profile e u = rw (some-given ne, ← given) (ap (foundNumber 23) (sym u ∙ e))
 
       pub level-named : (level : ℕ) {r : ℕ} → r ≡ levelOf t → r ≡ cond (eqb (length (m .args)) 0) level (levelOf (argument m 0))
       level-named level e = rw (some-given ne, ← given) e
@@ -221,10 +220,8 @@ module _ (line : List ℕ) (head : Header) (h : IsRead line head) where
 
 -- the rows of a request
 module _ (sheet : Sheet) (r : Request) (m : Message) {b : Bool} (e : b ≡ countFits r (length (m .args))) where
-  pub count-declined : not b ≡ true → 15 ≡ lineDeclined sheet (Asks r m)
-  unfolding lineDeclined
+  pub count-declined : not b ≡ true → 15 ≡ requestDeclined sheet r m
   count-declined t = rw (← e, t)
 
-  pub count-fitting : not b ≡ false → argumentsDeclined sheet r m ≡ lineDeclined sheet (Asks r m)
-  unfolding lineDeclined
+  pub count-fitting : not b ≡ false → argumentsDeclined sheet r m ≡ requestDeclined sheet r m
   count-fitting t = rw (← e, t)

@@ -132,6 +132,7 @@ module _ (line : List ℕ) (head : Header) {name : List ℕ} (h : IsRead line he
       answered-is (a ∙ rw (b, u)) refl refl (and (as-sent e (ap (λ m. to c m ∷ []) (own-reply (text "ok" ∷ [])))) (as-sent f (to-every (connected s) (disconnect why))))
 
 -- the requests that `help` tells of
-pub help-names : (line : List ℕ) (head : Header) {name : List ℕ} → IsRead line head → name ≡ lines.argument line 0 → namesTold (not (eqb (head .count) 0)) name ≡ helpNames (messageOf line)
+pub help-names : (profile : ℕ) (line : List ℕ) (head : Header) {name : List ℕ} → IsRead line head → name ≡ lines.argument line 0
+    → namesTold profile (not (eqb (head .count) 0)) name ≡ helpNames profile (messageOf line)
 unfolding helpNames
-help-names line head h e = rw (e, argument-is line head h 0, count-is line head h) (cond-not (eqb (length (messageOf line .args)) 0) _ _)
+help-names profile line head h e = rw (e, argument-is line head h 0, count-is line head h) (cond-not (eqb (length (messageOf line .args)) 0) _ _)

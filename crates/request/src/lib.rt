@@ -47,17 +47,17 @@ fn argument(line: &[u8], k: usize, into: &mut [u8]) -> usize
     n
 }
 
-// Row 23: `help` on a name that no request has.
-fn help_row(line: &[u8], head: Header) -> u8
+// Row 23: `help` on a name that no request of a profile has.
+fn help_row(profile: u8, line: &[u8], head: Header) -> u8
     requires { ⌜ IsRead (now line) head ⌝ }
-    ensures { λ r. ⌜ r ≡ calls.argumentsDeclined states.blankSheet Request.Help (messageOf (now (line .entry))) ⌝ }
+    ensures { λ r. ⌜ r ≡ cond (eqb (length (messageOf (now (line .entry)) .args)) 0) 0 (calls.helpDeclined profile (requests.requestNamed (requests.argument (messageOf (now (line .entry))) 0))) ⌝ }
 {
     if head.count == 0 {
         return 0;
     }
     let mut text: [u8; line::LONGEST] = [0; line::LONGEST];
     let n = argument(line, 0, &mut text);
-    let Found::Is(_) = replies::request_named(&text[..n]) else {
+    let Found::Is(_) = replies::request_named(profile, &text[..n]) else {
         return 23;
     };
     0
@@ -175,7 +175,7 @@ fn arguments_row(sheet: Sheet, request: Request, line: &[u8], head: Header) -> u
     match request {
         Request::ClientList => 0,
         Request::Halt => 0,
-        Request::Help => help_row(line, head),
+        Request::Help => help_row(sheet.profile, line, head),
         Request::LogLevel => level_row(line, head),
         Request::Restart => 0,
         Request::SensorList => told_row(sheet, line, head),
@@ -189,7 +189,7 @@ fn arguments_row(sheet: Sheet, request: Request, line: &[u8], head: Header) -> u
 // The number of the row that declines a request, 15 before those of its arguments; 0 for none.
 fn request_row(sheet: Sheet, request: Request, line: &[u8], head: Header) -> u8
     requires { ⌜ IsRead (now line) head × (sheet .count ≤ 32) ⌝ }
-    ensures { λ r. ⌜ r ≡ calls.lineDeclined sheet (requests.Asks request (messageOf (now (line .entry)))) ⌝ }
+    ensures { λ r. ⌜ r ≡ calls.requestDeclined sheet request (messageOf (now (line .entry))) ⌝ }
 {
     if !replies::count_fits(request, head.count) {
         return 15;
@@ -259,11 +259,12 @@ fn help(state: State, client: u8, line: &[u8], head: Header, out: &mut [u8]) -> 
     requires { ⌜ IsRead (now line) head ⌝ }
     ensures { λ r. ⌜ effects.Gives (effects.requestEffect state client Request.Help (now (line .entry))) (now (out .entry)) r (now (out .exit)) ⌝ }
 {
+    let sheet = state.sheet;
     let mut text: [u8; line::LONGEST] = [0; line::LONGEST];
     let n = argument(line, 0, &mut text);
     let name = line::name(line, head.name);
     let named = head.count != 0;
-    let written = replies::help(out, client, name, head.id, named, &text[..n]);
+    let written = replies::help(out, client, name, head.id, sheet.profile, named, &text[..n]);
     answered(state, written)
 }
 
@@ -567,10 +568,11 @@ fn answer_request(state: State, client: u8, line: &[u8], head: Header, out: &mut
     requires { ⌜ Heard state client (now line) head ⌝ }
     ensures { λ r. ⌜ effects.Gives (effects.lineEffect state client (requests.askedFor (requests.requestNamed (messageOf (now (line .entry)) .name)) (messageOf (now (line .entry))))) (now (out .entry)) r (now (out .exit)) ⌝ }
 {
-    let Found::Is(request) = replies::request_named(line::name(line, head.name)) else {
+    let sheet = state.sheet;
+    let name = line::name(line, head.name);
+    let Found::Is(request) = replies::request_named(sheet.profile, name) else {
         return refuse(state, client, 14, line, head, out);
     };
-    let sheet = state.sheet;
     let number = request_row(sheet, request, line, head);
     if number != 0 {
         return refuse(state, client, number, line, head, out);
@@ -614,9 +616,10 @@ pub fn respond(state: State, client: usize, line: &[u8], out: &mut [u8]) -> Answ
     ensures { λ r. ⌜ r ≡ answerOf (step state (calls.callOf (calls.Line client (now (line .entry))) (now (out .entry)))) ⌝ }
     ensures { λ r. ⌜ now (out .exit) ≡ outputOf (step state (calls.callOf (calls.Line client (now (line .entry))) (now (out .entry)))) (now (out .entry)) ⌝ }
 {
+    let sheet = state.sheet;
     let clients = state.clients;
     let refused = !declining::is_connected(clients, client);
-    let own = declining::client_rows(refused, client, 0);
+    let own = declining::client_rows(sheet.profile, refused, client, 0);
     let number = declining::rows(sheet::in_range(state), out.len(), state.halted, own);
     if number != 0 {
         return declining::silent(number, state);

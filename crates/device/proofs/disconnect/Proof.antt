@@ -13,19 +13,22 @@ use Rattle.device.proofs.RowLaws.{client-same}
 use Rattle.device.proofs.disconnect.Statement.{statement}
 use Rattle.device.proofs.disconnect.Tie as tie
 
+abbrev start : tie.After-rows → tie.Start
+start c = let there = c .before .before .before in there .before .before .before .before
+
 with-client-requires : tie.Need-with-client-requires
 with-client-requires c κs =
-    let c1 = c .before .before .before .before in let c2 = c1 .before .before .before in let a = c2 .args in
-    λ z. client-fits (not (c1 .is-connected .result)) (a .client) 0 (own-passes (a .state) (a .out .now) (c .before .before .in-range .ensures) (c .before .before .before .client-rows .ensures) (c .before .rows .ensures) z) .0
+    let r = c .before in let a = start r .args in
+    λ z. client-fits (a .state .sheet .profile) _ (a .client) 0 (own-passes (a .state) (a .out .now) (r .before .in-range .ensures) (r .before .before .client-rows .ensures) (r .rows .ensures) z) .0
 
 returns : tie.Need-returns
 unfolding actionDeclined refusal perform
 returns c =
-    let c1 = c .before .before .before .before in let c2 = c1 .before in let c3 = c2 .before .before .before in let a = c3 .args in
+    let r = c .before .before in let a = start r .args in
     let asked = Disconnect (a .client) in
-    let row = c1 .client-rows .ensures ∙ client-same (a .client) (ap not (c2 .is-connected .ensures)) refl in
+    let row = r .before .before .client-rows .ensures ∙ client-same (a .state .sheet .profile) (a .client) (ap not (r .before .before .before .is-connected .ensures)) refl in
     rw (c .with-client .ensures)
-    (one-exit (a .state) asked (a .out .now) (declined-by (a .state) asked (a .out .now) (c .before .before .before .in-range .ensures) row (c .before .before .rows .ensures)) refl refl
+    (one-exit (a .state) asked (a .out .now) (declined-by (a .state) asked (a .out .now) (r .before .in-range .ensures) row (r .rows .ensures)) refl refl
     (rw (c .before .blank-client .ensures)) (rw cond-same none-sent))
 
 pub disconnect-spec : {M : Type 1} → statement M

@@ -18,7 +18,7 @@ abbrev asks : tie.Start → Action
 asks s = Line (s .args .client) (s .args .line .now)
 
 abbrev start : tie.After-rows → tie.Start
-start c = c .before .before .before .before .before .before .before
+start c = let there = c .before .before .before in there .before .before .before .before .before
 
 -- where no row up to 6 declines
 passed : (c : tie.After-rows) → c .rows .result ≡ 0
@@ -29,26 +29,23 @@ passed c =
 
 returns : tie.Need-returns
 returns c =
-    let c1 = c .before .before .before .before in let c2 = c1 .before in let c3 = c2 .before .before .before .before in
-    let s = c3 in
-    let d = declines (s .args .state) (s .args .client) (s .args .line .now) (s .args .out .now) (c .before .before .before .in-range .ensures) (ap not (c2 .is-connected .ensures)) (c1 .client-rows .ensures) (c .before .before .rows .ensures) (c .before .if1 .taken) in
+    let r = c .before .before in let s = start r in
+    let d = declines (s .args .state) (s .args .client) (s .args .line .now) (s .args .out .now) (r .before .in-range .ensures) (ap not (r .before .before .before .is-connected .ensures)) (r .before .before .client-rows .ensures) (r .rows .ensures) (c .before .if1 .taken) in
     refused (s .args .state) (asks s) (s .args .out .now) (d .0) (c .before .if1 .taken) (d .1) (c .silent .ensures)
 
 returns-2 : tie.Need-returns-2
 returns-2 c =
-    let c1 = c .before .before .before .before in let c2 = c1 .before .before .before .before in let c3 = c2 .before .before .before in
-    let s = c3 in
-    let p = passed c1 (c .before .before .before .if1 .left) in
+    let r = c .before .before .before .before in let s = start r in
+    let p = passed r (c .before .before .before .if1 .left) in
     answered-line (s .args .state) (s .args .client) (s .args .line .now) (s .args .out .now) (p .0) (p .2)
     (as-given (blank-effect (s .args .state) (s .args .client) (s .args .line .now) (sym (c .before .before .is-blank .ensures) ∙ c .before .if2 .taken)) (nothing-given (s .args .state) (s .args .out .now) (c .answered .ensures)))
 
 returns-3 : tie.Need-returns-3
 returns-3 c =
-    let c1 = c .before .before .before .before in let c2 = c1 .before in let c3 = c2 .before in let c4 = c3 .before in let c5 = c4 .before .before .before .before in let c6 = c5 .before .before .before in
-    let s = c6 in
-    let p = passed c4 (c3 .if1 .left) in
+    let blank = c .before .before .before .before in let tested = blank .before in let r = tested .before .before in let s = start r in
+    let p = passed r (tested .before .if1 .left) in
     answered-line (s .args .state) (s .args .client) (s .args .line .now) (s .args .out .now) (p .0) (p .2)
-    (as-given (written-effect (s .args .state) (s .args .client) (s .args .line .now) (sym (c2 .is-blank .ensures) ∙ c1 .if2 .left)) (c .before .before .answer-line .ensures))
+    (as-given (written-effect (s .args .state) (s .args .client) (s .args .line .now) (sym (tested .is-blank .ensures) ∙ blank .if2 .left)) (c .before .before .answer-line .ensures))
 
 pub respond-spec : {M : Type 1} → statement M
 respond-spec =

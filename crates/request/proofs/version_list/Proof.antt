@@ -13,7 +13,7 @@ unfolding answer
 returns c =
     let c1 = c .before .before .before in let c2 = c1 .before .before in let c3 = c2 .before .before .before .before in
     let s = c3 in
-    tells (s .args .line .now) (s .args .head) (s .pre) (c2 .name .ensures) (s .args .state) (s .args .client) (λ id. map (versionInform id) (protocolArgs ∷ deviceArgs (s .args .state .sheet) ∷ [])) (c1 .version-list .ensures) refl (c .answered .ensures)
+    tells (s .args .line .now) (s .args .head) (s .pre) (c2 .name .ensures) (s .args .state) (s .args .client) (λ id. map (versionInform id) (protocolArgs (s .args .state .sheet .profile) ∷ deviceArgs (s .args .state .sheet) ∷ [])) (c1 .version-list .ensures) refl (c .answered .ensures)
 
 pub version-list-spec : {M : Type 1} → statement M
 version-list-spec =
