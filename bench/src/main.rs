@@ -141,7 +141,7 @@ fn print_openings() {
     println!("| call | device, ns | model, ns | device / model |");
     println!("|---|---|---|---|");
     for (name, sheet) in [(OPEN, unit::sheet(32)), (OPEN_LARGEST, unit::largest_sheet())] {
-        let opened = |_: &u64| Device::open(&sheet).0 == 0;
+        let opened = |_: &u64| Device::open(&sheet, 0).0 == 0;
         let device = nanoseconds(2_000, TIMES, |n| device::opens(&sheet, n));
         let model = nanoseconds(2_000, TIMES, |n| (0..n).filter(opened).count() as u64);
         println!("| {name} | {device:.0} | {model:.0} | {:.1} |", device / model);
@@ -278,7 +278,7 @@ fn print_growth_row(name: &str, sizes: &[(usize, u8)], cost: impl Fn(usize, u8) 
 /// The same n calls on the model.
 fn model_calls(case: &Case, n: u64) -> u64 {
     let mut out = Vec::new();
-    let (_, mut device) = Device::open(&case.sheet);
+    let (_, mut device) = Device::open(&case.sheet, 0);
     for client in 0..usize::from(case.clients) {
         device.connect(device::LENT, client, b"bench", &mut out);
         device.line(device::LENT, client, case.setup.as_bytes(), &mut out);

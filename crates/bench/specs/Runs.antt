@@ -10,7 +10,7 @@ use Rattle.value.specs.declared.Reading.the-variants.{Integer}
 use Rattle.machine.specs.declared.State.{State}
 use Rattle.machine.specs.declared.Answer.{Answer}
 use Rattle.machine.specs.Range.{inRange}
-use Rattle.machine.specs.Opening.{opened}
+use Rattle.machine.specs.Opening.{startOf, opened}
 use Rattle.machine.specs.Declined.{Action, callOf}
 use Rattle.machine.specs.Declined as calls
 use Rattle.machine.specs.Machine.{Effect, step, answerOf, outputOf}
@@ -65,7 +65,7 @@ roundOf n = cond (eqb n 0) rounds.Connect (cond (eqb n 1) rounds.Tick (cond (eqb
 
 -- the device of a sheet with clients connected, each of which has sent a line
 unfoldable pub prepared : List ℕ → ℕ → List ℕ → List ℕ → Run
-prepared sheet clients setup out = runs (roundAction rounds.Setup setup) (begun (opened sheet .state) out) (clients * 2)
+prepared sheet clients setup out = runs (roundAction rounds.Setup setup) (begun (opened (startOf 0 sheet) .state) out) (clients * 2)
 
 -- n calls of a round on a device that was prepared
 unfoldable pub measured : Round → List ℕ → Run → ℕ → Run
@@ -77,7 +77,7 @@ judge e = cond (inRange (e .next)) (e .number) 255
 
 -- a call on the device of a sheet that was just opened
 abbrev pub onFresh : List ℕ → Action → List ℕ → Effect
-onFresh sheet action out = step (opened sheet .state) (callOf action out)
+onFresh sheet action out = step (opened (startOf 0 sheet) .state) (callOf action out)
 
 -- client 0 connects to it
 abbrev pub greeting : List ℕ → List ℕ → Effect

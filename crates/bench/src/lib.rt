@@ -11,7 +11,7 @@ ghost use Prim.Native.Nat.{_+_, _-_, _^_, _<_, _≤_};
 ghost use lib.Dec.{eqb};
 ghost use Rattle.output.specs.Text.{text};
 ghost use Rattle.machine.specs.Range.{inRange};
-ghost use Rattle.machine.specs.Opening.{opened};
+ghost use Rattle.machine.specs.Opening.{startOf, opened};
 ghost use Rattle.machine.specs.Declined.{callOf};
 ghost use Rattle.machine.specs.Declined as calls;
 ghost use Rattle.machine.specs.Machine.{step, answerOf, outputOf};
@@ -104,7 +104,7 @@ fn prepare(sheet: &[u8], clients: u8, setup: &[u8], out: &mut [u8]) -> State
     ensures { λ r. ⌜ r ≡ spec.prepared (now (sheet .entry)) clients (now (setup .entry)) (now (out .entry)) .state ⌝ }
     ensures { λ r. ⌜ now (out .exit) ≡ spec.prepared (now (sheet .entry)) clients (now (setup .entry)) (now (out .entry)) .out ⌝ }
 {
-    let opened = device::open(sheet);
+    let opened = device::open(0, sheet);
     let ready = repeat(opened.state, Round::Setup, setup, clients as u64 * 2, out);
     ready.state
 }
@@ -143,12 +143,12 @@ pub extern "C" fn bench_calls(
 // n openings of a sheet: how many were taken.
 #[no_mangle]
 pub extern "C" fn bench_opens(sheet: &[u8], n: u64) -> u64
-    ensures { λ r. ⌜ r ≡ cond (eqb (opened (now (sheet .entry)) .number) 0) n 0 ⌝ }
+    ensures { λ r. ⌜ r ≡ cond (eqb (opened (startOf 0 (now (sheet .entry))) .number) 0) n 0 ⌝ }
 {
     let mut taken: u64 = 0;
     let mut k: u64 = 0;
     while k < n {
-        let device = device::open(sheet);
+        let device = device::open(0, sheet);
         taken = counted(taken, device.number == 0);
         k += 1;
     }
@@ -197,7 +197,7 @@ pub extern "C" fn bench_connect(sheet: &[u8], out: &mut [u8]) -> u8
     ensures { λ r. ⌜ r ≡ spec.judge (spec.onFresh (now (sheet .entry)) (calls.Connect 0 (text "bench")) (now (out .entry))) ⌝ }
     ensures { λ r. ⌜ now (out .exit) ≡ outputOf (spec.onFresh (now (sheet .entry)) (calls.Connect 0 (text "bench")) (now (out .entry))) (now (out .entry)) ⌝ }
 {
-    let fresh = device::open(sheet);
+    let fresh = device::open(0, sheet);
     let answer = device::connect(fresh.state, 0, b"bench", out);
     judged(answer.number, answer.state)
 }
@@ -208,7 +208,7 @@ pub extern "C" fn bench_tick(sheet: &[u8], out: &mut [u8]) -> u8
     ensures { λ r. ⌜ r ≡ spec.judge (spec.onFresh (now (sheet .entry)) (calls.Tick 1) (now (out .entry))) ⌝ }
     ensures { λ r. ⌜ now (out .exit) ≡ outputOf (spec.onFresh (now (sheet .entry)) (calls.Tick 1) (now (out .entry))) (now (out .entry)) ⌝ }
 {
-    let fresh = device::open(sheet);
+    let fresh = device::open(0, sheet);
     let answer = device::tick(fresh.state, 1, out);
     judged(answer.number, answer.state)
 }
@@ -219,7 +219,7 @@ pub extern "C" fn bench_reading(sheet: &[u8], out: &mut [u8]) -> u8
     ensures { λ r. ⌜ r ≡ spec.judge (spec.onFresh (now (sheet .entry)) (spec.roundAction rounds.Reading [] 0) (now (out .entry))) ⌝ }
     ensures { λ r. ⌜ now (out .exit) ≡ outputOf (spec.onFresh (now (sheet .entry)) (spec.roundAction rounds.Reading [] 0) (now (out .entry))) (now (out .entry)) ⌝ }
 {
-    let fresh = device::open(sheet);
+    let fresh = device::open(0, sheet);
     let answer = device::reading(fresh.state, 0, Reading::Integer(7), 0, out);
     judged(answer.number, answer.state)
 }
@@ -230,7 +230,7 @@ pub extern "C" fn bench_log(sheet: &[u8], out: &mut [u8]) -> u8
     ensures { λ r. ⌜ r ≡ spec.judge (spec.onFresh (now (sheet .entry)) (calls.Log 1 (text "bench") (text "bench")) (now (out .entry))) ⌝ }
     ensures { λ r. ⌜ now (out .exit) ≡ outputOf (spec.onFresh (now (sheet .entry)) (calls.Log 1 (text "bench") (text "bench")) (now (out .entry))) (now (out .entry)) ⌝ }
 {
-    let fresh = device::open(sheet);
+    let fresh = device::open(0, sheet);
     let answer = device::log(fresh.state, 1, b"bench", b"bench", out);
     judged(answer.number, answer.state)
 }
@@ -241,7 +241,7 @@ pub extern "C" fn bench_disconnect(sheet: &[u8], out: &mut [u8]) -> u8
     ensures { λ r. ⌜ r ≡ spec.judge (spec.onConnected (now (sheet .entry)) (calls.Disconnect 0) (now (out .entry))) ⌝ }
     ensures { λ r. ⌜ now (out .exit) ≡ outputOf (spec.onConnected (now (sheet .entry)) (calls.Disconnect 0) (now (out .entry))) (spec.connectedOut (now (sheet .entry)) (now (out .entry))) ⌝ }
 {
-    let fresh = device::open(sheet);
+    let fresh = device::open(0, sheet);
     let greeted = device::connect(fresh.state, 0, b"bench", out);
     let answer = device::disconnect(greeted.state, 0, out);
     judged(answer.number, answer.state)
@@ -253,7 +253,7 @@ pub extern "C" fn bench_line(sheet: &[u8], line: &[u8], out: &mut [u8]) -> u8
     ensures { λ r. ⌜ r ≡ spec.judge (spec.onConnected (now (sheet .entry)) (calls.Line 0 (now (line .entry))) (now (out .entry))) ⌝ }
     ensures { λ r. ⌜ now (out .exit) ≡ outputOf (spec.onConnected (now (sheet .entry)) (calls.Line 0 (now (line .entry))) (now (out .entry))) (spec.connectedOut (now (sheet .entry)) (now (out .entry))) ⌝ }
 {
-    let fresh = device::open(sheet);
+    let fresh = device::open(0, sheet);
     let greeted = device::connect(fresh.state, 0, b"bench", out);
     let answer = device::line(greeted.state, 0, line, out);
     judged(answer.number, answer.state)

@@ -117,7 +117,7 @@ fn run(unit: State) -> bool {
 
 // The unit of a sheet's bytes.
 fn start(sheet: &[u8]) {
-    let opened = device::open(sheet);
+    let opened = device::open(0, sheet);
     if opened.number != 0 {
         stream::complain(b"sheet.lgu is not a sheet.\n");
         return;

@@ -54,7 +54,7 @@ fn show_lines(s: &[u8], first: State, out: &mut [u8]) -> bool {
 
 // The unit of a sheet, through the lines of standard input: whether all was printed.
 fn run(sheet: &[u8]) -> bool {
-    let opened = device::open(sheet);
+    let opened = device::open(0, sheet);
     let mut out = io::large_buffer();
     let connected = terminal::connect(opened.state, &mut out);
     if !print_lines(&out, connected.written) {

@@ -91,6 +91,9 @@ fn with_titles(sheet: Sheet, line: &[u8], n: Numbers) -> Sheet {
     if sets(line, b"count") {
         next.count = byte(n.a);
     }
+    if sets(line, b"profile") {
+        next.profile = byte(n.a);
+    }
     next
 }
 
@@ -370,8 +373,9 @@ fn show_lines(s: &[u8], first: State, blank: State) -> bool {
 fn main() {
     let mut input = io::large_buffer();
     let n = stream::read_input(&mut input);
-    let broken = sheet::open(b"");
+    let broken = sheet::open(0, b"");
     let opened = sheet::open(
+        0,
         b"LGU\0\x01\x07lgu-1.0\x02b7\x05\x04load\x09Car load.\x02kg\x01\x04\0\0\0\0\0\0\x03\xe8\xff\xff\xff\xfb\0\0\x04\xb0\x05speed\0\x03m/s\x02\x02\xff\xff\xf8\0\0\0\x08\0\x04door\0\0\x04\x03\x04shut\x04open\x06moving\x04call\0\0\x03\x05start\0\0\x05",
     );
     if !(print_range(b"opened", opened.state)

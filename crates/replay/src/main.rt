@@ -106,7 +106,7 @@ fn replay(first: State, buf: &mut [u8], out: &mut [u8], answers: &mut [u8]) -> b
 }
 
 fn main() {
-    let blank = device::open(b"");
+    let blank = device::open(0, b"");
     let mut buf = [0u8; 131072];
     let mut out = [0u8; 65536];
     let mut answers = [0u8; 262144];

@@ -6,7 +6,7 @@ use Rattle.output.specs.Text.{text}
 use Rattle.output.specs.Number.{decimal}
 use Rattle.machine.specs.declared.State.{State}
 use Rattle.machine.specs.declared.Answer.{Answer}
-use Rattle.machine.specs.Opening.{opened}
+use Rattle.machine.specs.Opening.{Start, startOf, opened}
 use Rattle.machine.specs.Declined.{Action, callOf}
 use Rattle.machine.specs.Declined as calls
 use Rattle.machine.specs.Machine.{step, answerOf, outputOf}
@@ -20,7 +20,7 @@ use Rattle.script.specs.Script.{commandOf, lentBy}
 -- What a command asks of the device.
 pub data Asking : Type 0 where
   Nothing : Asking  -- a line that is passed over, or is no call
-  Opening : List ℕ → Asking  -- a sheet
+  Opening : Start → Asking  -- a sheet and a profile
   Calling : Action → Asking  -- a call
 
 -- the bytes of word k
@@ -31,7 +31,7 @@ bytesAt k line = bytesOf (wordAt k line)
 unfoldable pub asking : List ℕ → Command → Asking
 asking line commands.Passed = Nothing
 asking line commands.Wrong = Nothing
-asking line commands.Open = Opening (bytesAt 1 line)
+asking line (commands.Open profile) = Opening (startOf profile (bytesAt 1 line))
 asking line (commands.Connect c) = Calling (calls.Connect c (bytesAt 3 line))
 asking line (commands.Disconnect c) = Calling (calls.Disconnect c)
 asking line (commands.Tick t) = Calling (calls.Tick t)
@@ -46,13 +46,13 @@ quiet n s = record { number = n; written = 0; state = s }
 -- what is answered, with this output lent: "`open` replaces the device"
 unfoldable pub answered : State → List ℕ → Asking → Answer
 answered s lent Nothing = quiet 0 s
-answered s lent (Opening bytes) = quiet (opened bytes .number) (opened bytes .state)
+answered s lent (Opening start) = quiet (opened start .number) (opened start .state)
 answered s lent (Calling action) = answerOf (step s (callOf action lent))
 
 -- and what the lent output holds then
 unfoldable pub left : State → List ℕ → Asking → List ℕ
 left s lent Nothing = lent
-left s lent (Opening bytes) = lent
+left s lent (Opening start) = lent
 left s lent (Calling action) = outputOf (step s (callOf action lent)) lent
 
 -- A line on a device, with an output at hand. "above 65,536 it is lent as 65,536": of the output at hand there is no more.
@@ -81,7 +81,7 @@ answerLine n bs = decimal n ++ (text " " ++ (hexText bs ++ (10 ∷ [])))
 unfoldable pub reply : Command → ℕ → List ℕ → List ℕ
 reply commands.Passed n bs = []
 reply commands.Wrong n bs = text "error" ++ (10 ∷ [])
-reply commands.Open n bs = answerLine n bs
+reply (commands.Open profile) n bs = answerLine n bs
 reply (commands.Connect c) n bs = answerLine n bs
 reply (commands.Disconnect c) n bs = answerLine n bs
 reply (commands.Tick t) n bs = answerLine n bs

@@ -1,5 +1,5 @@
 -- What a line of a script asks: one call a line, words with one space between them, bytes in lower-case hex, numbers in decimal.
---   open SHEET
+--   open SHEET [PROFILE]
 --   connect LENT CLIENT ADDRESS
 --   disconnect LENT CLIENT
 --   tick LENT MS
@@ -87,6 +87,19 @@ given kind t =
 abbrev pub hasBytes : ℕ → List ℕ → Bool
 hasBytes k line = isBytes (wordAt k line)
 
+-- a sheet, with a profile or without
+unfoldable pub isOpening : List ℕ → Bool
+isOpening line = hasWords (text "open") 1 line || hasWords (text "open") 2 line
+
+-- "PROFILE from (m) on; none is 0", a byte
+unfoldable pub profileAt : List ℕ → Number
+profileAt line = cond (hasWords (text "open") 1 line) (Is 0) (atMost 255 (numberAt 2 line))
+
+-- an opening under a profile that was read, or none
+abbrev pub opening : Number → Command
+opening Bad = commands.Wrong
+opening (Is profile) = commands.Open profile
+
 -- a reading with its value, and with its time or without
 unfoldable pub isReading : List ℕ → Bool
 isReading line = hasWords (text "reading") 4 line || hasWords (text "reading") 5 line
@@ -128,7 +141,7 @@ unfoldable pub commandOf : ℕ → List ℕ → Command
 commandOf clock line =
     cond (ltb 65536 (length line)) commands.Wrong
     (cond (passed line) commands.Passed
-    (cond (hasWords (text "open") 1 line && hasBytes 1 line) commands.Open
+    (cond (isOpening line && hasBytes 1 line) (opening (profileAt line))
     (byNumbers clock line (numberAt 1 line) (numberAt 2 line))))
 
 -- "LENT is the length of the lent output", of a call

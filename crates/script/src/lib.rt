@@ -13,7 +13,7 @@ ghost use Rattle.output.specs.Output.{output, Wrote};
 ghost use Rattle.output.specs.Read.{readDecimal, readInteger};
 ghost use Rattle.value.specs.declared.Reading.the-variants as readings;
 ghost use Rattle.machine.specs.Declined as calls;
-ghost use Rattle.machine.specs.Opening.{opened};
+ghost use Rattle.machine.specs.Opening.{startOf, opened};
 ghost use Rattle.machine.specs.Machine.{step, answerOf, outputOf};
 ghost use Rattle.hex.specs.Hex.{bitsOf};
 ghost use Rattle.numbers.specs.Number.{numberOf};
@@ -38,7 +38,8 @@ pub enum Command {
     Passed,
     // no call
     Wrong,
-    Open,
+    // profile
+    Open(u8),
     Connect(usize),
     Disconnect(usize),
     Tick(u64),
@@ -177,6 +178,33 @@ fn has_bytes(line: &[u8], k: usize) -> bool
     hex::is_bytes(input::word(line, k))
 }
 
+// Whether a line opens a sheet, with a profile or without.
+fn is_opening(line: &[u8]) -> bool
+    ensures { λ r. ⌜ r ≡ scripts.isOpening (now (line .entry)) ⌝ }
+{
+    input::has_words(line, b"open", 1) | input::has_words(line, b"open", 2)
+}
+
+// The profile of an opening: 0 where the line has none.
+fn profile_at(line: &[u8]) -> Number
+    ensures { λ r. ⌜ r ≡ scripts.profileAt (now (line .entry)) ⌝ }
+{
+    if input::has_words(line, b"open", 1) {
+        return Number::Is(0);
+    }
+    at_most(255, number_at(line, 2))
+}
+
+// An opening that a line asks.
+fn open_command(line: &[u8]) -> Command
+    ensures { λ r. ⌜ r ≡ scripts.opening (scripts.profileAt (now (line .entry))) ⌝ }
+{
+    let Number::Is(profile) = profile_at(line) else {
+        return Command::Wrong;
+    };
+    Command::Open(profile as u8)
+}
+
 // Whether a line gives a reading, with its time or without.
 fn is_reading(line: &[u8]) -> bool
     ensures { λ r. ⌜ r ≡ scripts.isReading (now (line .entry)) ⌝ }
@@ -252,8 +280,8 @@ fn command_of(clock: u64, line: &[u8]) -> Command
     if is_passed(line) {
         return Command::Passed;
     }
-    if input::has_words(line, b"open", 1) & has_bytes(line, 1) {
-        return Command::Open;
+    if is_opening(line) & has_bytes(line, 1) {
+        return open_command(line);
     }
     let Number::Is(_) = number_at(line, 1) else {
         return Command::Wrong;
@@ -276,13 +304,13 @@ fn lent_len(line: &[u8], len: usize) -> usize
 
 // The calls that take bytes of the line.
 
-fn open_sheet(line: &[u8]) -> Answer
+fn open_sheet(line: &[u8], profile: u8) -> Answer
     requires { ⌜ length (now line) ≤ 65536 ⌝ }
-    ensures { λ r. ⌜ r ≡ replays.quiet (opened (replays.bytesAt 1 (now (line .entry))) .number) (opened (replays.bytesAt 1 (now (line .entry))) .state) ⌝ }
+    ensures { λ r. ⌜ r ≡ replays.quiet (opened (startOf profile (replays.bytesAt 1 (now (line .entry)))) .number) (opened (startOf profile (replays.bytesAt 1 (now (line .entry)))) .state) ⌝ }
 {
     let mut sheet = [0u8; MOST_BYTES];
     let n = hex::put_bytes_of(&mut sheet, 0, input::word(line, 1));
-    let opened = device::open(&sheet[..n]);
+    let opened = device::open(profile, &sheet[..n]);
     declining::silent(opened.number, opened.state)
 }
 
@@ -327,7 +355,7 @@ fn carry_out(state: State, line: &[u8], command: Command, out: &mut [u8]) -> Ans
     match command {
         Command::Passed => declining::silent(0, state),
         Command::Wrong => declining::silent(0, state),
-        Command::Open => open_sheet(line),
+        Command::Open(profile) => open_sheet(line, profile),
         Command::Connect(client) => connect(state, line, client, out),
         Command::Disconnect(client) => device::disconnect(state, client, out),
         Command::Tick(ms) => device::tick(state, ms, out),

@@ -6,6 +6,7 @@ use mathlib.Core.Path.{_≡_, refl, subst, _∙_}
 use mathlib.Core.Bool.{true}
 use mathlib.Core.List.{List, [], _∷_}
 use lib.ListN.{length}
+use borrow.Author.Tests.{eqb-false}
 use Rattle.output.specs.Text.{text, isDigit}
 use Rattle.message.specs.Message.{Message, message, escapeByte, escape, arg, idText, writeTo}
 use Rattle.message.specs.Delivery.{to}
@@ -13,12 +14,13 @@ use Rattle.line.specs.Line.{blank, letter, titleByte, kindByte, plain, escapeOf
 use Rattle.machine.specs.declared.Sheet.{Sheet}
 use Rattle.machine.specs.declared.State.{State}
 use Rattle.machine.specs.declared.Opened.{Opened}
-use Rattle.machine.specs.Places.{tabulate, gather, firstBelow}
-use Rattle.machine.specs.Sheet.{sheetOk, graphic, textFits}
+use Rattle.machine.specs.Places.{tabulate, gather, firstBelow, fromFirst}
+use Rattle.machine.specs.Sheet.{sheetOk, titlesOk, sensorsOk, graphic, textFits}
 use Rattle.machine.specs.State.{fresh, withLevel, withClient, clientAt}
 use Rattle.machine.specs.Range.{inRange}
+use Rattle.machine.specs.Opening.{startOf, withProfile}
 use Rattle.machine.specs.Messages.{versionConnect, protocolArgs, deviceArgs, levelText, toWhere}
-use Rattle.machine.specs.Requests.{requestNamed, levelOf, asked, answer}
+use Rattle.machine.specs.Requests.{requestNamed, hidden, levelOf, asked, answer}
 use Rattle.machine.specs.Declined.{callOf, addressFits, countFits, argumentsDeclined, lineDeclined, clientDeclined, actionDeclined}
 use Rattle.machine.specs.Machine.{Effect, connectSends, lineWork, perform, done, step}
 use Rattle.machine.specs.TwoDevices.{after, sentTo, messagesOf}
@@ -37,18 +39,23 @@ module _ (lent next : List ℕ) where
   -- what the calls come to on a state
   record Facts (s : State) : Type 0 where
     pub connects : step s (callOf connecting lent) .number ≡ 0
-    pub versions : sentTo 0 (step s (callOf connecting lent) .sent) ≡ versionConnect protocolArgs ∷ versionConnect (deviceArgs (s .sheet)) ∷ []
+    pub versions : sentTo 0 (step s (callOf connecting lent) .sent) ≡ versionConnect (protocolArgs 0) ∷ versionConnect (deviceArgs (s .sheet)) ∷ []
     pub asks : step (step s (callOf connecting lent) .next) (callOf asking next) .number ≡ 0
     pub reply : sentTo 0 (step (step s (callOf connecting lent) .next) (callOf asking next) .sent) ≡ answered ∷ []
     pub level : step (step s (callOf connecting lent) .next) (callOf asking next) .next .level ≡ 4
 
-  module _ (room : 65536 ≤ length lent) (more : 65536 ≤ length next) (sheet : Sheet) (ok : sheetOk sheet ≡ true) where
+  module _ (room : 65536 ≤ length lent) (more : 65536 ≤ length next) (read : Sheet) (ok : sheetOk read ≡ true) where
+    -- the sheet that was read, under profile 0
+    abbrev sheet : Sheet
+    sheet = withProfile read 0
+
     -- the state with client 0 connected
     abbrev with-console : State
     with-console = withClient (fresh sheet) 0 (clientAt (text "console"))
 
     fresh-in-range : inRange (fresh sheet) ≡ true
-    fresh-in-range = range-of (fresh sheet) (fresh-range sheet ok)
+    unfolding sheetOk titlesOk sensorsOk
+    fresh-in-range = range-of (fresh sheet) (fresh-range sheet ok (omega arith))
 
     connect-done : step (fresh sheet) (callOf connecting lent) ≡ done (perform sheet (fresh sheet) connecting)
     unfolding actionDeclined clientDeclined addressFits textFits graphic
@@ -59,14 +66,14 @@ module _ (lent next : List ℕ) where
     with-console-in-range = subst (λ (e : Effect). inRange (e .next) ≡ true) connect-done (kept-in-range .step-in-range (fresh sheet) fresh-in-range (callOf connecting lent))
 
     asking-fits : actionDeclined sheet with-console asking ≡ 0
-    unfolding withClient tabulate firstBelow actionDeclined clientDeclined lineDeclined countFits argumentsDeclined levelOf levelText asked requestNamed isDigit blank letter titleByte kindByte plain escapeOf parse blankLine
+    unfolding withClient tabulate firstBelow actionDeclined clientDeclined hidden lineDeclined countFits argumentsDeclined levelOf levelText asked requestNamed isDigit blank letter titleByte kindByte plain escapeOf parse blankLine
     asking-fits = refl
 
     asking-done : step with-console (callOf asking next) ≡ done (perform sheet with-console asking)
     unfolding withClient
     asking-done = carried-out with-console (callOf asking next) (record { in-range = with-console-in-range; room = more; running = refl; fits = asking-fits })
 
-    heard : sentTo 0 (perform sheet (fresh sheet) connecting .sent) ≡ versionConnect protocolArgs ∷ versionConnect (deviceArgs sheet) ∷ []
+    heard : sentTo 0 (perform sheet (fresh sheet) connecting .sent) ≡ versionConnect (protocolArgs 0) ∷ versionConnect (deviceArgs sheet) ∷ []
     unfolding perform connectSends sentTo toWhere gather
     heard = refl
 
@@ -85,10 +92,11 @@ module _ (lent next : List ℕ) where
     }
 
 pub begins : Begins
-unfolding after messagesOf levelText arg escape escapeByte idText writeTo
+unfolding after messagesOf fromFirst levelText arg escape escapeByte idText writeTo
 begins bytes lent next e room more =
-    let f = opened-cases (λ (o : Opened). o .number ≡ 0 → Facts lent next (o .state)) bytes (λ sheet ok _. facts lent next room more sheet ok) (λ q. absurd (omega arith)) e in
+    let start = startOf 0 bytes in
+    let f = opened-cases (λ (o : Opened). o .number ≡ 0 → Facts lent next (o .state)) start (λ sheet ok _ _. facts lent next room more sheet ok) (λ n z q. absurd (eqb-false n 0 z q)) e in
     record {
-      three-lines = lines-are bytes 0 (firstCalls lent next) ∙ rw (f .connects, f .versions, f .asks, f .reply);
+      three-lines = lines-are start 0 (firstCalls lent next) ∙ rw (f .connects, f .versions, f .asks, f .reply);
       at-info = rw (f .level);
     }

@@ -5,7 +5,7 @@ use mathlib.Core.List.{List, [], _∷_, _++_}
 use lib.ListN.{length}
 use Rattle.output.specs.Text.{text}
 use Rattle.message.specs.Message.{line}
-use Rattle.machine.specs.Opening.{opened}
+use Rattle.machine.specs.Opening.{Start, startOf, opened}
 use Rattle.machine.specs.Messages.{versionConnect, deviceArgs, levelText}
 use Rattle.machine.specs.Declined.{Action, Connect, Line, Call, callOf}
 use Rattle.machine.specs.TwoDevices.{after, sheetOf, linesOf}
@@ -27,11 +27,11 @@ abbrev pub ended : List ℕ → List ℕ
 ended t = t ++ (10 ∷ [])
 
 -- what client 0 has been sent after some calls, and the log level: "the printed session gains `!log-level ok info` as its third line"
-pub record Begun (bytes : List ℕ) (h : List Call) : Type 0 where
-  pub three-lines : linesOf bytes 0 h
-      ≡ ended (text "#version-connect katcp-protocol 5.1-MIB") ∷ line (versionConnect (deviceArgs (sheetOf bytes))) ∷ ended (text "!log-level ok info") ∷ []
-  pub at-info : levelText (after bytes h .level) ≡ text "info"
+pub record Begun (start : Start) (h : List Call) : Type 0 where
+  pub three-lines : linesOf start 0 h
+      ≡ ended (text "#version-connect katcp-protocol 5.1-MIB") ∷ line (versionConnect (deviceArgs (sheetOf start))) ∷ ended (text "!log-level ok info") ∷ []
+  pub at-info : levelText (after start h .level) ≡ text "info"
 
--- so it stands after the two calls, on every sheet that opens
+-- so it stands after the two calls, on every sheet that opens: under profile 0, document 02, (m), "0 for the present behaviour"
 abbrev pub Begins : Type 0
-Begins = (bytes lent next : List ℕ) → opened bytes .number ≡ 0 → 65536 ≤ length lent → 65536 ≤ length next → Begun bytes (firstCalls lent next)
+Begins = (bytes lent next : List ℕ) → opened (startOf 0 bytes) .number ≡ 0 → 65536 ≤ length lent → 65536 ≤ length next → Begun (startOf 0 bytes) (firstCalls lent next)

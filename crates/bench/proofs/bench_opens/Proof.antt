@@ -7,14 +7,14 @@ use borrow.Author.Needs.{needs}
 use native.Mathlib.Omega.{arith}
 use lib.Dec.{eqb}
 use Rattle.machine.specs.declared.Opened.{Opened}
-use Rattle.machine.specs.Opening.{opened}
+use Rattle.machine.specs.Opening.{startOf, opened}
 use Rattle.bench.proofs.RunLaws.{at-most, none-yet, one-more}
 use Rattle.bench.proofs.bench_opens.Statement.{statement}
 use Rattle.bench.proofs.bench_opens.Tie as tie
 
 -- the sheet opens
 abbrev opens : List ℕ → Bool
-opens sheet = eqb (opened sheet .number) 0
+opens sheet = eqb (opened (startOf 0 sheet) .number) 0
 
 abbrev Inv-loop : tie.InvT-loop
 Inv-loop sheet n taken₀ k₀ taken k = (k ≤ n) × (taken ≡ cond (opens sheet) k 0)

@@ -18,7 +18,7 @@ call-answered : (n : ℕ) (bs : List ℕ) (command : Command) → OneOf (2 ∷ 3
 unfolding reply
 call-answered n bs Passed h = absurd (miss (2 ∷ 3 ∷ 4 ∷ 5 ∷ 6 ∷ 7 ∷ 8 ∷ []) 0 tt h)
 call-answered n bs Wrong h = absurd (miss (2 ∷ 3 ∷ 4 ∷ 5 ∷ 6 ∷ 7 ∷ 8 ∷ []) 1 tt h)
-call-answered n bs Open h = refl
+call-answered n bs (Open profile) h = refl
 call-answered n bs (Connect client) h = refl
 call-answered n bs (Disconnect client) h = refl
 call-answered n bs (Tick ms) h = refl
