@@ -37,7 +37,7 @@ def zero(kind):
 
 
 def blank():
-    return {"api": array(32), "api_len": 0, "build": array(32), "build_len": 0, "count": 0, "clock": 0, "halted": 1, "level": 0, "sensors": [sensor() for _ in range(32)],
+    return {"api": array(32), "api_len": 0, "build": array(32), "build_len": 0, "count": 0, "profile": 0, "clock": 0, "halted": 1, "level": 0, "sensors": [sensor() for _ in range(32)],
             "readings": [{"reading_kind": 0, "reading_number": 0, "reading_time": 0} for _ in range(32)],
             "clients": [{"connected": 0, "address": array(48), "address_len": 0} for _ in range(8)],
             "pairs": [{"strategy": (0, 0, 0, 0), "reported": 0, "report_kind": 0, "report_number": 0, "report_time": 0} for _ in range(256)]}
@@ -144,6 +144,9 @@ def in_range(s):
         return False
     if s["count"] > 32 or s["clock"] > TIME or s["level"] > 7:
         return False
+    # document 02, (m): "0 for the present behaviour or 1 for single-client"; "a state of it with another client connected gets 1"
+    if s["profile"] > 1 or s["profile"] == 1 and any(k["connected"] for k in s["clients"][1:]):
+        return False
     here = s["sensors"][:s["count"]]
     if not all(sensor_ok(n) for n in here) or any(n != sensor() for n in s["sensors"][s["count"]:]):
         return False
@@ -163,13 +166,31 @@ def in_range(s):
 
 # The lines.
 
+def address(c, text):
+    """The lines that give client c an address, zeros behind it."""
+    for k in range(11):
+        yield "address %d %d %d" % (c, k, text[k] if k < len(text) else 0)
+    yield "address_len %d %d" % (c, len(text))
+
+
+def single():
+    """Profile 1, with client 0 and with another beside it, which profile 0 allows."""
+    yield "+ profile 1"
+    yield from ("? profile %d" % v for v in (0, 1, 2, 3, 255))
+    yield from ("+ " + x for x in address(0, b"lift-0:7147"))
+    yield from ("+ connected 0 1", "? profile 0", "? profile 2", "? connected 0 0")
+    for c in (1, 2, 7):
+        yield from ("+ " + x for x in address(c, b"lift-%d:7147" % c))
+        yield from ("? connected %d 1" % c, "+ profile 0", "? connected %d 1" % c, "+ profile 2", "? connected %d 1" % c, "+ profile 1")
+        yield from ("+ " + x for x in address(c, b""))
+    yield "+ profile 0"
+
+
 def filled():
     """A full state: clients 0 to 6, readings of each sensor, a subscription of each strategy."""
     yield "clock 5000000"
     for c in range(7):
-        for k, b in enumerate(b"lift-%d:7147" % c):
-            yield "address %d %d %d" % (c, k, b)
-        yield "address_len %d 11" % c
+        yield from address(c, b"lift-%d:7147" % c)
         yield "connected %d 1" % c
     for j, (kind, number, time) in enumerate([(1, 2**31 + 750, 4999999), (1, 2**30 - 512, 5000000), (1, 2, 1), (2, 0, 77), (1, TIME, 5000)]):
         yield "reading_number %d %d" % (j, number)
@@ -197,6 +218,7 @@ def damaged():
             for v in (0, 0x20, 0x21, 0x7E, 0x7F, 200):
                 yield "%s %d %d" % (t, k, v)
     yield from ("count %d" % v for v in (0, 4, 6, 32, 33, 255))
+    yield from ("profile %d" % v for v in (0, 1, 2, 255))
     for f, n, size in (("name", 4, 32), ("description", 9, 64), ("units", 2, 8)):
         for v in (0, 1, n - 1, n + 1, size, size + 1, 255):
             yield "%s_len 0 %d" % (f, v)
@@ -240,14 +262,14 @@ def damaged():
 
 def from_blank():
     """The blank state with one field set: only as it is, is it in range without texts."""
-    yield from ("halted 0", "level 1", "level 4", "clock 1", "count 1", "api_len 1", "api 0 97", "build_len 1", "build 0 97", "type 0 5", "name 0 0 97", "name_len 0 1", "limit_count 0 2", "option_count 0 1")
+    yield from ("halted 0", "level 1", "level 4", "clock 1", "count 1", "profile 1", "profile 2", "api_len 1", "api 0 97", "build_len 1", "build 0 97", "type 0 5", "name 0 0 97", "name_len 0 1", "limit_count 0 2", "option_count 0 1")
     yield from ("option 0 0 0 97", "reading_kind 0 1", "reading_number 0 1", "reading_time 0 1", "connected 0 1", "address 0 0 97", "address_len 0 1")
     yield from ("reported 0 1", "strategy 0 1", "report_kind 0 1", "report_number 0 1", "report_time 0 1")
 
 
 def main():
     if sys.argv[1:] == ["--make"]:
-        print("\n".join(["+ " + x for x in filled()] + ["? " + x for x in damaged()] + ["-"] + ["? " + x for x in from_blank()]))
+        print("\n".join(list(single()) + ["+ " + x for x in filled()] + ["? " + x for x in damaged()] + ["-"] + ["? " + x for x in from_blank()]))
         return
     state = opened()
     print("opened", int(in_range(state)))
