@@ -1,9 +1,6 @@
 -- A device of every sheet that opens can be connected.
-use Prim.Native.Nat.{ℕ}
-use native.Mathlib.Omega.{arith}
 use mathlib.Core.Path.{_≡_, refl}
 use mathlib.Core.Bool.{false}
-use mathlib.Core.List.{List}
 use lib.ListN.{length}
 use borrow.Author.Tests.{le-ltb, eqb-false}
 use Rattle.machine.specs.declared.Opened.{Opened}

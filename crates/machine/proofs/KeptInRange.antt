@@ -1,5 +1,4 @@
 -- The states that opening and calls return are in range, and no call on one of them returns number 1.
-use Prim.Native.Nat.{ℕ}
 use mathlib.Core.Path.{_≡_}
 use mathlib.Core.Bool.{true}
 use mathlib.Core.List.{List, [], _∷_}

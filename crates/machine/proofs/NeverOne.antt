@@ -1,7 +1,7 @@
 -- Number 1 tells of a state out of range, and of nothing else.
 use Prim.Native.Nat.{ℕ}
 use mathlib.Core.Path.{_≡_, _∙_, refl}
-use mathlib.Core.Bool.{Bool, true, cond, not, false, _&&_}
+use mathlib.Core.Bool.{Bool, true, cond, not, false}
 use native.Mathlib.Omega.{arith}
 use lib.Dec.{eqb, ltb}
 use lib.ListN.{length}

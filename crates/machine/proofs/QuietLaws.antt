@@ -11,8 +11,8 @@ use Rattle.machine.specs.declared.Sheet.{Sheet}
 use Rattle.machine.specs.declared.State.{State}
 use Rattle.machine.specs.declared.Request.{Request}
 use Rattle.machine.specs.declared.Request.the-variants.{ClientList, Halt, Help, LogLevel, Restart, SensorList, SensorSampling, SensorValue, VersionList, Watchdog}
-use Rattle.machine.specs.Places.{Each, oneIf}
-use Rattle.machine.specs.Sheet.{single, sensorOf}
+use Rattle.machine.specs.Places.{Each}
+use Rattle.machine.specs.Sheet.{sensorOf}
 use Rattle.machine.specs.State.{connected, startLevel}
 use Rattle.machine.specs.Messages
 use Rattle.machine.specs.Requests.{endConnections, Asked, Nothing, NotMessage, Reply, Unknown, Asks, asked, askedPlaces, helpNames, addresses, levelAsked, answer}

@@ -66,7 +66,7 @@ requestIn (r ∷ rs) name = cond (same (r .name) name) (some (r .request)) (requ
 unfoldable pub requestNamed : List ℕ → Option Request
 requestNamed name = requestIn requests name
 
--- a request that a sheet's profile does not have: document 02, (m), "`client-list` gets 14 and `help` omits it"
+-- a request that a profile does not have: document 02, (m), "`client-list` gets 14 and `help` omits it"
 unfoldable pub hidden : ℕ → Request → Bool
 hidden profile ClientList = single profile
 hidden profile Halt = false
