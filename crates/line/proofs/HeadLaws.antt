@@ -1,7 +1,7 @@
 -- The head of a line, by the tests of the code; and the answer of a line from its head and the count of its arguments.
 use Prim.Native.Nat.{ℕ, ◌≤◌, ◌<◌}
 use mathlib.Core.Path.{◌≡◌, refl, sym, ap, ◌∙◌}
-use mathlib.Core.Bool.{Bool, true, false, cond, and_false}
+use mathlib.Core.Bool.{Bool, true, false, cond, and-false}
 use mathlib.Core.List.{List, [], ◌∷◌}
 use native.Mathlib.Omega.{arith}
 use borrow.Author.Tests.{le-leb, lt-leb}
@@ -37,12 +37,12 @@ module _ (t : List ℕ) (k count n : ℕ) (en : n ≡ length (name_of t)) where
   pub empty : n ≡ 0 → Malformed ≡ named_read k t count
   empty z =
       let g : starts_with_letter (name_of t) ≡ false = no_letter (name_of t) (sym en ∙ z) in
-      rw (g, and_false)
+      rw (g, and-false)
 
   pub not_letter : (n ≡ 0 → ⊥) → letter (get_or t 0 0) ≡ false → Malformed ≡ named_read k t count
   not_letter z l =
       let g : starts_with_letter (name_of t) ≡ false = first_letter t (λ q. z (en ∙ q)) ∙ l in
-      rw (g, and_false)
+      rw (g, and-false)
 
   -- the identifier m decides
   pub decides : n ≤ 64 → (n ≡ 0 → ⊥) → letter (get_or t 0 0) ≡ true → (m : Identifier) → m ≡ id_of (drop n t) → with_id_read k n count m ≡ named_read k t count

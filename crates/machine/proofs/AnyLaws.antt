@@ -2,7 +2,7 @@
 use Prim.Native.Nat.{ℕ, ◌+◌, ◌<◌}
 use native.Mathlib.Numerals.{add-one}
 use mathlib.Core.Path.{◌≡◌, refl, ap, sym, ◌∙◌}
-use mathlib.Core.Bool.{Bool, true, false, ◌||◌, or_false, or_assoc}
+use mathlib.Core.Bool.{Bool, true, false, ◌||◌, or-false, or_assoc}
 use mathlib.Core.List.{List, [], ◌∷◌, ◌++◌}
 use lib.Dec.{eqb}
 use lib.ListN.{length, take, get_or}
@@ -19,7 +19,7 @@ module _ {A : Type 0} (f : A → Bool) where
   -- one element more
   pub any_and : (xs : List A) (x : A) → any f (xs ++ (x ∷ [])) ≡ (any f xs || f x)
   unfolding any
-  any_and xs x = any_append xs (x ∷ []) ∙ ap (λ b. any f xs || b) (or_false (f x))
+  any_and xs x = any_append xs (x ∷ []) ∙ ap (λ b. any f xs || b) (or-false (f x))
 
   pub any_more : (xs : List A) (k : ℕ) (d : A) → k < length xs → any f (take (k + 1) xs) ≡ (any f (take k xs) || f (get_or xs k d))
   any_more xs k d h = rw (add-one, take-suc xs k d) (any_and (take k xs) (get_or xs k d))

@@ -2,7 +2,7 @@
 use Prim.Native.Nat.{ℕ, ◌<◌}
 use native.Mathlib.Omega.{arith}
 use mathlib.Core.Path.{◌≡◌, refl, ap, ap₂, sym, ◌∙◌, subst}
-use mathlib.Core.Bool.{Bool, true, false, cond, ◌&&◌, ◌||◌, or_false}
+use mathlib.Core.Bool.{Bool, true, false, cond, ◌&&◌, ◌||◌, or-false}
 use mathlib.Core.List.{List}
 use mathlib.Core.Option.{Option, none, some}
 use lib.Dec.{eqb, leb, ltb}
@@ -81,7 +81,7 @@ supersedes_is n x o t h = ap₂ (λ k b. leb k t || b) h.time_is h.fresh_is ∙ 
   where
     go : (o : Option Arrival) → (leb (time_from o) t || is_fresh o) ≡ superseding t o
     go none = ap (λ b. b || true) (le-leb 0 t (omega arith))
-    go (some r) = or_false (leb r.time t)
+    go (some r) = or-false (leb r.time t)
 
 -- a reading that supersedes is stored, and no other sensor's is touched
 pub stored_next : (s : State) (k j : ℕ) → j < 32 → (r : Arrival) → stored_of (reading_stored s.sheet s k r).next j ≡ cond (eqb k j) (stored_given (sensor_of s.sheet k) r) (stored_of s j)

@@ -3,7 +3,7 @@ use Prim.Native.Nat.{ℕ, suc, ◌+◌, ◌-◌, ◌*◌, ◌/◌, ◌%◌, ◌^
 use native.Mathlib.Nat.{min-eq_left, le-div_iff_mul-le, div-lt_iff_lt-mul, mul-le-mul_left, one-le-pow, pow-le-pow_right}
 use native.Mathlib.Omega.{arith}
 use mathlib.Core.Path.{◌≡◌, refl, sym, ap, ◌∙◌}
-use mathlib.Core.Bool.{Bool, true, false, cond, ◌&&◌, and_true, and-eq-true_iff}
+use mathlib.Core.Bool.{Bool, true, false, cond, ◌&&◌, and-true, and-eq-true_iff}
 use mathlib.Core.List.{List, [], ◌∷◌, ◌++◌, append-nil}
 use mathlib.Core.Option.{Option, some, none}
 use borrow.Author.Tests.{eq-eqb, ne_eqb, ltb-true, leb-true, eqb-true}
@@ -102,7 +102,7 @@ whole_differences = record {
 
 -- whole millions
 pub whole_range : (n : ℕ) → leb (n * 1000000) 4294967295000000 ≡ reads.in_whole_difference (n * 1000000)
-whole_range n = rw (eq-eqb (n * 1000000 % 1000000) 0 (omega arith), and_true)
+whole_range n = rw (eq-eqb (n * 1000000 % 1000000) 0 (omega arith), and-true)
 
 -- ---- digits with a point
 

@@ -2,7 +2,7 @@
 use Prim.Native.Nat.{ℕ, ◌+◌, ◌*◌, ◌/◌, ◌%◌, ◌≤◌, ◌<◌}
 use native.Mathlib.Omega.{arith}
 use mathlib.Core.Path.{◌≡◌, refl, ap, sym, ◌∙◌}
-use mathlib.Core.Bool.{Bool, true, false, cond, ◌&&◌, ◌||◌, and_false, or_false}
+use mathlib.Core.Bool.{Bool, true, false, cond, ◌&&◌, ◌||◌, and-false, or-false}
 use mathlib.Core.List.{List, []}
 use lib.Dec.{eqb}
 use lib.ListN.{length, take, get_or, set, length-set}
@@ -58,7 +58,7 @@ module _ (s : State) (c : ℕ) (js : List ℕ) (st : Strategy) where
 
   pairs_none : length s.subscriptions ≡ 256 → s.subscriptions ≡ sampled_pairs s c [] st
   unfolding sampled_pairs has any
-  pairs_none e = by_place s.subscriptions (λ p. set_if (eqb (p / 32) c && false) p) 256 no_subscription e (λ p h. ap (λ b. set_if b p) (sym (and_false (eqb (p / 32) c))))
+  pairs_none e = by_place s.subscriptions (λ p. set_if (eqb (p / 32) c && false) p) 256 no_subscription e (λ p h. ap (λ b. set_if b p) (sym (and-false (eqb (p / 32) c))))
 
   pub set-none : length s.subscriptions ≡ 256 → SetTo 0 s
   set-none e = record { inside = omega arith; is = ap (with_pairs s) (pairs_none e) }
@@ -94,7 +94,7 @@ module _ (s : State) (c : ℕ) (js : List ℕ) (st : Strategy) where
     set_else p n = rw (more (p % 32)) (go (eqb (p / 32) c) refl)
       where
         go : (b : Bool) → eqb (p / 32) c ≡ b → (b && has (p % 32) (take k js)) ≡ (b && (has (p % 32) (take k js) || eqb (p % 32) (get_or js k 0)))
-        go true e = rw (ne_eqb (p % 32) (get_or js k 0) (λ q. n (omega (arith, eqb-true (p / 32) c e)))) (sym (or_false (has (p % 32) (take k js))))
+        go true e = rw (ne_eqb (p % 32) (get_or js k 0) (λ q. n (omega (arith, eqb-true (p / 32) c e)))) (sym (or-false (has (p % 32) (take k js))))
         go false e = refl
 
     abbrev old : List Subscription

@@ -2,7 +2,7 @@
 use Prim.Native.Nat.{ℕ, suc, ◌+◌, ◌-◌, ◌<◌, ◌≤◌}
 use native.Mathlib.Omega.{arith}
 use mathlib.Core.Path.{◌≡◌, refl, ap, ◌∙◌}
-use mathlib.Core.Bool.{Bool, true, false, not, ◌&&◌, ◌||◌, and_assoc, or_false}
+use mathlib.Core.Bool.{Bool, true, false, not, ◌&&◌, ◌||◌, and_assoc, or-false}
 use mathlib.Core.List.{List}
 use lib.Dec.{eqb, ltb}
 use lib.ListN.{length, take, drop, get_or, drop_of_length-le}
@@ -36,7 +36,7 @@ filled_at is n bytes i h = go (ltb i n) refl
     go true e =
         let l : i < n = ltb-true i n e in
         let k : n - i ≡ suc (n - (i + 1)) = omega arith in
-        rw (k, at bytes i h, or_false (is (get_or bytes i 0)))
+        rw (k, at bytes i h, or-false (is (get_or bytes i 0)))
         (and_assoc (is (get_or bytes i 0)) (all is (take (n - (i + 1)) (drop (i + 1) bytes))) (all zero_byte (drop (n - (i + 1)) (drop (i + 1) bytes))))
     go false e =
         let l : n ≤ i = ltb-false i n e in

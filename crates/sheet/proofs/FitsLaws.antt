@@ -2,7 +2,7 @@
 use Prim.Native.Nat.{ℕ, ◌/◌, ◌%◌, ◌<◌}
 use native.Mathlib.Omega.{arith}
 use mathlib.Core.Path.{◌≡◌}
-use mathlib.Core.Bool.{Bool, false, ◌&&◌, ◌||◌, and_assoc, and_false, or_false}
+use mathlib.Core.Bool.{Bool, false, ◌&&◌, ◌||◌, and_assoc, and-false, or-false}
 use mathlib.Core.List.{List}
 use lib.Dec.{ltb}
 use lib.ListN.{get_or}
@@ -19,7 +19,7 @@ use Rattle.sheet.specs.Fits.{stored_fits, reported_fits, pair_fits}
 
 -- a test, or one that never holds
 pub or_never : (a b : Bool) → a ≡ (a || (b && false))
-or_never a b = rw (and_false b, or_false a)
+or_never a b = rw (and-false b, or-false a)
 
 module _ (sheet : Sheet) (j : ℕ) (h : j < 32) where
   -- the type that is found at a place is that of its sensor

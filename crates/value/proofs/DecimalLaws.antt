@@ -2,7 +2,7 @@
 use Prim.Native.Nat.{ℕ, ◌+◌, ◌-◌, ◌*◌, ◌^◌, ◌<◌, ◌≤◌, min}
 use native.Mathlib.Omega.{arith}
 use mathlib.Core.Path.{◌≡◌, refl, ap, sym, ◌∙◌}
-use mathlib.Core.Bool.{Bool, true, false, not, cond, ◌&&◌, ◌||◌, and_false, and-eq-true_iff, true≢false, false≢true}
+use mathlib.Core.Bool.{Bool, true, false, not, cond, ◌&&◌, ◌||◌, and-false, and-eq-true_iff, true≢false, false≢true}
 use mathlib.Core.List.{List, [], ◌∷◌, ◌++◌}
 use lib.Dec.{leb, ltb, eqb, eqb-suc-suc}
 use lib.ListN.{length, drop, get_or}
@@ -54,7 +54,7 @@ out_of_range : (least most u n : ℕ) → u ≡ min n (most + 1) → ltb u least
 out_of_range least most u n e h = go (ltb u least) refl (ltb most u) refl h
   where
     go : (a : Bool) → ltb u least ≡ a → (b : Bool) → ltb most u ≡ b → a || b ≡ true → Bad ≡ cond (leb least n && leb n most) (Is n) Bad
-    go a p true q h = let l = ltb-true most u q in rw (lt-leb n most (omega arith), and_false (leb least n))
+    go a p true q h = let l = ltb-true most u q in rw (lt-leb n most (omega arith), and-false (leb least n))
     go true p false q h = let l = ltb-true u least p in let m = ltb-false most u q in rw (lt-leb least n (omega arith))
     go false p false q h = absurd (false≢true h)
 
