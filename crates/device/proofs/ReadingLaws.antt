@@ -19,7 +19,7 @@ use Rattle.machine.specs.declared.Stored.{Stored}
 use Rattle.machine.specs.declared.Sensor.{Sensor}
 use Rattle.machine.specs.Sheet.{sensor_of}
 use Rattle.machine.specs.Range.{in_range}
-use Rattle.machine.specs.Declined.{Arrival, arrival, Reading, rows_behind_lem, reading_declined, action_declined, declined}
+use Rattle.machine.specs.Declined.{Arrival, arrival, Reading, rows_behind, reading_declined, action_declined, declined}
 use Rattle.machine.specs.Machine.{sample_given, reading_work, perform}
 use Rattle.machine.specs.Report.{visit}
 use Rattle.machine.specs.Requests.{sends_only}
@@ -84,16 +84,16 @@ module _ (s : State) (j : ℕ) (g : Given) (time : ℕ) (lent : List ℕ) {good 
   asked_place e h = omega (arith, reading_place s j (arrival g time) lent i f e h)
 
   -- the number is that of these rows and, behind them, of the sample and of the time
-  pub reading_number : {rows ahead n : ℕ} → rows ≡ rows_then good s lent own → ahead ≡ cond (ltb s.clock time) 26 0 → n ≡ rows_behind_lem rows (rows_behind_lem (sampled_number sampled) ahead)
+  pub reading_number : {rows ahead n : ℕ} → rows ≡ rows_then good s lent own → ahead ≡ cond (ltb s.clock time) 26 0 → n ≡ rows_behind rows (rows_behind (sampled_number sampled) ahead)
       → number_of s (Reading j (arrival g time)) lent ≡ n
   unfolding reading_declined
-  reading_number {rows = zero} e l h = (reading_own s j (arrival g time) lent i f e refl).1.1 ∙ sym (h ∙ rw l (ap (λ a. rows_behind_lem (sampled_number a) (cond (ltb s.clock time) 26 0)) (rw (asked_place e refl) at x)))
+  reading_number {rows = zero} e l h = (reading_own s j (arrival g time) lent i f e refl).1.1 ∙ sym (h ∙ rw l (ap (λ a. rows_behind (sampled_number a) (cond (ltb s.clock time) 26 0)) (rw (asked_place e refl) at x)))
   reading_number {rows = suc k} e l h = reading_declined_lem s j (arrival g time) lent i f e (λ z. omega arith) ∙ sym (rw (not_none k) at h)
 
   module _ {n : ℕ} {newer : Bool} {readings : List Stored} (w : newer ≡ (eqb n 0 && supersedes time (stored_of s (j % 32))))
       (q : readings ≡ cond newer (readings_after s.readings (j % 32) sampled time) s.readings) where
     -- where it is 0, what is visited is the state with the reading, or nothing where that is older
-    pub reading_made : (ahead : ℕ) {rows : ℕ} → rows ≡ rows_then good s lent own → n ≡ rows_behind_lem rows (rows_behind_lem (sampled_number sampled) ahead) → length s.readings ≡ 32 → n ≡ 0
+    pub reading_made : (ahead : ℕ) {rows : ℕ} → rows ≡ rows_then good s lent own → n ≡ rows_behind rows (rows_behind (sampled_number sampled) ahead) → length s.readings ≡ 32 → n ≡ 0
         → visiting newer (moment s s.clock readings) (Read (j % 32)) ≡ perform s.sheet s (Reading j (arrival g time))
     unfolding perform reading_work
     reading_made ahead {rows} e h many z = go sampled refl (supersedes time (stored_of s j)) refl

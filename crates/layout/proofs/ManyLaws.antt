@@ -38,7 +38,7 @@ module _ {A : Type 0} {one : List ℕ → Taken A} {blank : A} {size count : ℕ
 
       pub fault : broken ≡ one rest → many_at one count s ≡ broken
       unfolding many_at
-      fault e = f.goes_on ∙ rw (left, sym e)
+      fault e = f.goes_on_lem ∙ rw (left, sym e)
 
       pub more : count ≤ size → {x : A} {behind : List ℕ} → taken x behind ≡ one rest → Progress one blank size count s (set array k x) behind (k + 1)
       unfolding many_at
@@ -49,7 +49,7 @@ module _ {A : Type 0} {one : List ℕ → Taken A} {blank : A} {size count : ℕ
             so_many = rw (length-append, f.so_many);
             within = omega arith;
             stored = rw (f.stored, n, append_snoc) (set_at f.passed blank (replicate (size - (k + 1)) blank) x k f.so_many);
-            goes_on_lem = f.goes_on ∙ rw (left, sym e, then_more f.passed x (many_at one (count - (k + 1)) behind));
+            goes_on_lem = f.goes_on_lem ∙ rw (left, sym e, then_more f.passed x (many_at one (count - (k + 1)) behind));
           }
 
     module _ (h : count ≤ k) where
@@ -57,7 +57,7 @@ module _ {A : Type 0} {one : List ℕ → Taken A} {blank : A} {size count : ℕ
       unfolding many_at
       all_read =
           let n : count - k ≡ 0 = omega arith in
-          f.goes_on ∙ rw (n, append-nil)
+          f.goes_on_lem ∙ rw (n, append-nil)
 
       pub all_counted : length f.passed ≡ count
       all_counted = omega (arith, f.so_many, f.within)

@@ -20,7 +20,7 @@ use Rattle.machine.specs.Requests.{strategy_named, parameter_count, strategy_by,
 use Rattle.machine.specs.Declined.{Call}
 use Rattle.machine.specs.Machine.{step}
 use Rattle.machine.specs.Reader.{Told, News, Other, Impossible, Reported, SetTo, agrees, report_read, agreed, parameters_read, all_numbers, set_with, strategy_news, sampling_news, is_named, is_ok, news, View, view_after, view_by}
-use Rattle.machine.specs.TwoDevices.{after, connects, packets_of, is_greeting, greets, lines_to, lines_of, sent_to, messages_of, report_in, report_by, later, last_report, without_end_lem}
+use Rattle.machine.specs.TwoDevices.{after, connects, packets_of, is_greeting, greets, lines_to, lines_of, sent_to, messages_of, report_in, report_by, later, last_report, without_end}
 use Rattle.machine.proofs.TestLaws.{cond_either}
 use Rattle.machine.proofs.PlacesLaws.{each_append, each_from}
 use Rattle.machine.proofs.HeardLaws.{each_to}
@@ -42,13 +42,13 @@ lines_packed a (d ∷ ds) = go (eqb d.client a) (lines_packed a ds)
     go false h = h
 
 -- the greeting stands among the lines where it stands among the messages
-greeting_lines : (ms : List Message) → Each WellFormed ms → from_first (λ l. is_greeting (parse (without_end_lem l))) (map line ms) ≡ map line (from_first greets ms)
+greeting_lines : (ms : List Message) → Each WellFormed ms → from_first (λ l. is_greeting (parse (without_end l))) (map line ms) ≡ map line (from_first greets ms)
 unfolding from_first
 greeting_lines [] w = refl
-greeting_lines (m ∷ ms) w = ap (λ p. cond (is_greeting p) (line m ∷ map line ms) (from_first (λ l. is_greeting (parse (without_end_lem l))) (map line ms))) (line_parses m w.0) ∙ go (greets m) (greeting_lines ms w.1)
+greeting_lines (m ∷ ms) w = ap (λ p. cond (is_greeting p) (line m ∷ map line ms) (from_first (λ l. is_greeting (parse (without_end l))) (map line ms))) (line_parses m w.0) ∙ go (greets m) (greeting_lines ms w.1)
   where
-    go : (b : Bool) → from_first (λ l. is_greeting (parse (without_end_lem l))) (map line ms) ≡ map line (from_first greets ms)
-        → cond b (line m ∷ map line ms) (from_first (λ l. is_greeting (parse (without_end_lem l))) (map line ms)) ≡ map line (cond b (m ∷ ms) (from_first greets ms))
+    go : (b : Bool) → from_first (λ l. is_greeting (parse (without_end l))) (map line ms) ≡ map line (from_first greets ms)
+        → cond b (line m ∷ map line ms) (from_first (λ l. is_greeting (parse (without_end l))) (map line ms)) ≡ map line (cond b (m ∷ ms) (from_first greets ms))
     go true ih = refl
     go false ih = ih
 
@@ -62,9 +62,9 @@ module _ (start : Start) (a : ℕ) where
       told = sent_to a (step (after start h) call).sent
 
       go : (b : Bool) → lines_to a (packets_of start h call) ≡ map line told → lines_of start a h ≡ map line (messages_of start a h)
-          → cond b (from_first (λ l. is_greeting (parse (without_end_lem l))) (lines_to a (packets_of start h call))) (lines_of start a h ++ lines_to a (packets_of start h call))
+          → cond b (from_first (λ l. is_greeting (parse (without_end l))) (lines_to a (packets_of start h call))) (lines_of start a h ++ lines_to a (packets_of start h call))
           ≡ map line (cond b (from_first greets told) (messages_of start a h ++ told))
-      go true e ih = ap (from_first (λ l. is_greeting (parse (without_end_lem l)))) e ∙ greeting_lines told (each_to WellFormed a (step (after start h) call).sent (sent_well_formed (after start h) call))
+      go true e ih = ap (from_first (λ l. is_greeting (parse (without_end l)))) e ∙ greeting_lines told (each_to WellFormed a (step (after start h) call).sent (sent_well_formed (after start h) call))
       go false e ih = ap₂ ◌++◌ ih e ∙ sym (map-append line (messages_of start a h) told)
 
 pub each_message : (P : Message → Type 0) (start : Start) (a : ℕ) → ((h : List Call) (call : Call) → Each (λ (d : Delivery). P d.message) (step (after start h) call).sent)
@@ -149,4 +149,4 @@ module _ (sheet : Sheet) (j : ℕ) where
   unfolding view_by last_report
   last_is [] v w p = refl
   last_is (m ∷ ms) v w p = last_is ms _ w.1 p.1 ∙ (ap (later (last_report sheet j (map line ms))) (news_last m v p.0 ∙ ap (λ q. later (report_by sheet j q) v.last) (sym (line_parses m w.0)))
-      ∙ sym (later_later (last_report sheet j (map line ms)) (report_by sheet j (parse (without_end_lem (line m)))) v.last))
+      ∙ sym (later_later (last_report sheet j (map line ms)) (report_by sheet j (parse (without_end (line m)))) v.last))

@@ -31,7 +31,7 @@ use Rattle.machine.specs.Report.{Work, due_at, pair_sends, visit}
 use Rattle.machine.specs.Requests.{Asked, Nothing, NotMessage, Reply, Unknown, Asks, asked, listed, asked_places, help_names, addresses, strategy_asked, sampled_sends, sampling, end_connections, answer}
 use Rattle.machine.specs.Declined.{Action, Connect, Disconnect, Tick, Reading, Log, Line, Call, tick_fits, action_declined, line_refusal, refusal}
 use Rattle.machine.specs.Machine.{connect_sends, entries, Effect, perform, step}
-use Rattle.machine.specs.TwoDevices.{after, packets_of, connects, lines_to, lines_of, sent_to, without_end_lem, clock_by, clock_of}
+use Rattle.machine.specs.TwoDevices.{after, packets_of, connects, lines_to, lines_of, sent_to, without_end, clock_by, clock_of}
 use Rattle.machine.specs.Tells.{shows_clock, clock_in, line_clock, ClockShown}
 use Rattle.machine.proofs.TestLaws.{and_true, cond_either, fitted}
 use Rattle.machine.proofs.PlacesLaws.{each_append, each_from, each_gather, each_one, each_map, each_of, each_weaker}
@@ -183,20 +183,20 @@ module _ (start : Start) where
 
   -- Lines.
 
-  shown : (a : ℕ) (h : List Call) (call : Call) → Each (λ l. shows_clock (parse (without_end_lem l)) ≡ true → line_clock l ≡ some (clock_of start (call ∷ h))) (lines_to a (packets_of start h call))
+  shown : (a : ℕ) (h : List Call) (call : Call) → Each (λ l. shows_clock (parse (without_end l)) ≡ true → line_clock l ≡ some (clock_of start (call ∷ h))) (lines_to a (packets_of start h call))
   shown a h call = let t = clock_of start (call ∷ h) in let ds = (step (after start h) call).sent in
-      subst (Each (λ l. shows_clock (parse (without_end_lem l)) ≡ true → line_clock l ≡ some t)) (sym (ap (lines_to a) (sent_packets start a h call) ∙ lines_packed a ds))
+      subst (Each (λ l. shows_clock (parse (without_end l)) ≡ true → line_clock l ≡ some t)) (sym (ap (lines_to a) (sent_packets start a h call) ∙ lines_packed a ds))
       (lines_read (λ p. shows_clock p ≡ true → clock_in p ≡ some t) (sent_to a ds) (each_to WellFormed a ds (sent_well_formed (after start h) call)) (each_to (Timed t) a ds (sent_timed h call)))
 
   -- a line that shows a clock shows one that is not later than now
   abbrev Not-later : ℕ → List ℕ → Type 0
-  Not-later now l = shows_clock (parse (without_end_lem l)) ≡ true → (t : ℕ) × ((line_clock l ≡ some t) × (t ≤ now))
+  Not-later now l = shows_clock (parse (without_end l)) ≡ true → (t : ℕ) × ((line_clock l ≡ some t) × (t ≤ now))
 
   at_least : (a : ℕ) (h : List Call) → Each (Not-later (clock_of start h)) (lines_of start a h)
   unfolding lines_of
   at_least a [] = tt
   at_least a (call ∷ h) = let now = clock_of start (call ∷ h) in
-      let own = each_weaker (λ l. shows_clock (parse (without_end_lem l)) ≡ true → line_clock l ≡ some now) (Not-later now) (λ l f e. (now, (f e, omega arith))) (lines_to a (packets_of start h call)) (shown a h call) in
+      let own = each_weaker (λ l. shows_clock (parse (without_end l)) ≡ true → line_clock l ≡ some now) (Not-later now) (λ l f e. (now, (f e, omega arith))) (lines_to a (packets_of start h call)) (shown a h call) in
       cond_either (Each (Not-later now)) (connects start a h call) _ _ (each_from (Not-later now) _ _ own)
       (each_append (Not-later now) (lines_of start a h) _
       (each_weaker (Not-later (clock_of start h)) (Not-later now) (λ l f e. let k = f e in (k.0, (k.1.0, omega (arith, k.1.1, clock_step h call)))) (lines_of start a h) (at_least a h)) own)

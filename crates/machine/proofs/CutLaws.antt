@@ -20,9 +20,9 @@ use Rattle.machine.specs.Opening.{Start}
 use Rattle.machine.specs.Declined.{Call}
 use Rattle.machine.specs.Machine.{step}
 use Rattle.machine.specs.Reader.{Told, News, Other, Impossible, Reported, SetTo, news, View, view_after, no_view}
-use Rattle.machine.specs.TwoDevices.{after, sheet_of, packets_of, connects, connected_at_end, without_end_lem, is_greeting, lines_to, lines_of, sent_to, clock_of}
+use Rattle.machine.specs.TwoDevices.{after, sheet_of, packets_of, connects, connected_at_end, without_end, is_greeting, lines_to, lines_of, sent_to, clock_of}
 use Rattle.machine.specs.Tells.{news_in, line_news, view_in, file_view, ViewTells, FileTells, reading_at}
-use Rattle.machine.specs.Cut.{up_to_line, goes_on_lem, may_go_on, leaves_open}
+use Rattle.machine.specs.Cut.{up_to_line, goes_on, may_go_on, leaves_open}
 use Rattle.machine.proofs.TestLaws.{and_true, cond_either, cond_cases}
 use Rattle.machine.proofs.PlacesLaws.{from_rest, each_behind, each_weaker}
 use Rattle.machine.proofs.ShapeLaws.{Held, ReportsOf, by_shape}
@@ -72,7 +72,7 @@ module _ (sheet : Sheet) where
   -- the next line may be of the same call
   abbrev pub opens : List ℕ → List (List ℕ) → Bool
   opens l [] = false
-  opens l (next ∷ rest) = goes_on_lem (line_news sheet l) (line_news sheet next)
+  opens l (next ∷ rest) = goes_on (line_news sheet l) (line_news sheet next)
 
   -- the lines of one call: wherever they are cut behind a line whose next does not go on, the rest tells nothing
   abbrev Settles : List (List ℕ) → Type 0
@@ -81,8 +81,8 @@ module _ (sheet : Sheet) where
   still_settles : (ls : List (List ℕ)) → Each Still ls → Settles ls
   still_settles ls h part l rest e f = (each_behind Still part (l ∷ rest) (subst (Each Still) e h)).1
 
-  two_go_on : (t : ℕ) (l next : List ℕ) → LineAt t l → LineAt t next → goes_on_lem (line_news sheet l) (line_news sheet next) ≡ true
-  two_go_on t l next h k = ap₂ goes_on_lem h.1.1.0 k.1.1.0 ∙ eq-eqb k.1.0.time h.1.0.time (k.1.1.1 ∙ sym h.1.1.1)
+  two_go_on : (t : ℕ) (l next : List ℕ) → LineAt t l → LineAt t next → goes_on (line_news sheet l) (line_news sheet next) ≡ true
+  two_go_on t l next h k = ap₂ goes_on h.1.1.0 k.1.1.0 ∙ eq-eqb k.1.0.time h.1.0.time (k.1.1.1 ∙ sym h.1.1.1)
 
   reports_settle : (t : ℕ) (ls : List (List ℕ)) → Each (LineAt t) ls → Settles ls
   reports_settle t ls h part l rest e f = go rest (each_behind (LineAt t) part (l ∷ rest) (subst (Each (LineAt t)) e h)) f
@@ -99,7 +99,7 @@ module _ (sheet : Sheet) where
     where
       go : (b : Bool) → is_none st ≡ b → Each Still (next ∷ ls)
       go true q = absurd (nil≢cons (sym (n q)))
-      go false q = absurd (true≢false (sym (ap₂ goes_on_lem e h.0.1.1.0 ∙ ap (λ b. not b && true) q) ∙ f))
+      go false q = absurd (true≢false (sym (ap₂ goes_on e h.0.1.1.0 ∙ ap (λ b. not b && true) q) ∙ f))
 
   set_settles : (t : ℕ) (l₀ : List ℕ) (js : List ℕ) (st : Strategy) (ls : List (List ℕ)) → line_news sheet l₀ ≡ SetTo js st → Each (LineAt t) ls → (is_none st ≡ true → ls ≡ [])
       → Settles (l₀ ∷ ls)
@@ -136,20 +136,20 @@ module _ (start : Start) (a : ℕ) where
 
   -- the lines that a call gives the connection: those of its connect from the greeting on
   abbrev given : List Call → Call → List (List ℕ)
-  given h call = cond (connects start a h call) (from_first (λ l. is_greeting (parse (without_end_lem l))) (lines_to a (packets_of start h call))) (lines_to a (packets_of start h call))
+  given h call = cond (connects start a h call) (from_first (λ l. is_greeting (parse (without_end l))) (lines_to a (packets_of start h call))) (lines_to a (packets_of start h call))
 
   lines_given : (call : Call) (h : List Call) → lines_of start a (call ∷ h) ≡ cond (connects start a h call) [] (lines_of start a h) ++ given h call
   unfolding lines_of
   lines_given call h = go (connects start a h call)
     where
-      go : (b : Bool) → cond b (from_first (λ l. is_greeting (parse (without_end_lem l))) (lines_to a (packets_of start h call))) (lines_of start a h ++ lines_to a (packets_of start h call))
-          ≡ cond b [] (lines_of start a h) ++ cond b (from_first (λ l. is_greeting (parse (without_end_lem l))) (lines_to a (packets_of start h call))) (lines_to a (packets_of start h call))
+      go : (b : Bool) → cond b (from_first (λ l. is_greeting (parse (without_end l))) (lines_to a (packets_of start h call))) (lines_of start a h ++ lines_to a (packets_of start h call))
+          ≡ cond b [] (lines_of start a h) ++ cond b (from_first (λ l. is_greeting (parse (without_end l))) (lines_to a (packets_of start h call))) (lines_to a (packets_of start h call))
       go true = refl
       go false = refl
 
   given_settles : (h : List Call) (call : Call) → Settles (sheet_of start) (given h call)
   given_settles h call = cond_either (Settles (sheet_of start)) (connects start a h call) _ _
-      (let q = from_rest (λ l. is_greeting (parse (without_end_lem l))) (lines_to a (packets_of start h call)) in
+      (let q = from_rest (λ l. is_greeting (parse (without_end l))) (lines_to a (packets_of start h call)) in
       λ part l rest e f. lines_settle h call (q.0 ++ part) l rest (q.1 ∙ (ap (λ ls. q.0 ++ ls) e ∙ sym (append_assoc q.0 part (l ∷ rest)))) f)
       (lines_settle h call)
 
@@ -200,7 +200,7 @@ module _ (start : Start) (a : ℕ) where
         (λ q. this_call call h behind c e f (from_here (length before) h (connects start a h call) q))
 
 -- a reader who sees some of the lines behind
-may_not : (w next : News) → may_go_on w ≡ false → goes_on_lem w next ≡ false
+may_not : (w next : News) → may_go_on w ≡ false → goes_on w next ≡ false
 may_not Other next h = refl
 may_not Impossible next h = refl
 may_not (Reported k r) next h = absurd (true≢false h)

@@ -20,9 +20,9 @@ use Rattle.machine.specs.Opening.{Start}
 use Rattle.machine.specs.Requests.{argument}
 use Rattle.machine.specs.Declined.{Call}
 use Rattle.machine.specs.Reader.{News, Other, Impossible, Reported, SetTo, Parts, is_shaped, parts_with, parts_of, read_value, valued, report_on, report_from, report_read, agreed, sampling_news, agrees, is_named, is_ok, news}
-use Rattle.machine.specs.TwoDevices.{sheet_of, connects, connected_at_end, lines_of, without_end_lem}
+use Rattle.machine.specs.TwoDevices.{sheet_of, connects, connected_at_end, lines_of, without_end}
 use Rattle.machine.specs.Tells.{news_in, line_news, shows_clock, clock_in, line_clock, connects_in}
-use Rattle.machine.specs.Cut.{is_report, goes_on_lem, leaves_open, next_clock, is_sampling_ok, CutTells, up_to_line, GaveLine}
+use Rattle.machine.specs.Cut.{is_report, goes_on, leaves_open, next_clock, is_sampling_ok, CutTells, up_to_line, GaveLine}
 use Rattle.machine.proofs.TestLaws.{none_some, and_true, cond_either, cond_cases, cond_true}
 use Rattle.machine.proofs.PlacesLaws.{each_behind}
 use Rattle.machine.proofs.ArchiveLaws.{sampling_either}
@@ -105,29 +105,29 @@ module _ (sheet : Sheet) where
   parse_of (message m) = news_of m
 
   -- two reports of which the second is later do not go on
-  later_not : (l next : List ℕ) (rest : List (List ℕ)) (t : ℕ) → is_sampling_ok (parse (without_end_lem l)) ≡ false → next_clock (next ∷ rest) ≡ some t
-      → ((u : ℕ) → line_clock l ≡ some u → u < t) → goes_on_lem (line_news sheet l) (line_news sheet next) ≡ false
+  later_not : (l next : List ℕ) (rest : List (List ℕ)) (t : ℕ) → is_sampling_ok (parse (without_end l)) ≡ false → next_clock (next ∷ rest) ≡ some t
+      → ((u : ℕ) → line_clock l ≡ some u → u < t) → goes_on (line_news sheet l) (line_news sheet next) ≡ false
   later_not l next rest t other n h = go (line_news sheet l) (line_news sheet next) refl refl
     where
-      go : (w v : News) → line_news sheet l ≡ w → line_news sheet next ≡ v → goes_on_lem w v ≡ false
+      go : (w v : News) → line_news sheet l ≡ w → line_news sheet next ≡ v → goes_on w v ≡ false
       go Other v p q = refl
       go Impossible v p q = refl
-      go (SetTo js st) v p q = absurd (true≢false (sym ((parse_of (parse (without_end_lem l))).1 (ap is_set p)) ∙ other))
+      go (SetTo js st) v p q = absurd (true≢false (sym ((parse_of (parse (without_end l))).1 (ap is_set p)) ∙ other))
       go (Reported k r) Other p q = refl
       go (Reported k r) Impossible p q = refl
       go (Reported k r) (SetTo js st) p q = refl
       go (Reported k r) (Reported i s) p q = ne_eqb s.time r.time (λ z. omega (arith, same, z, h r.time (old.1 ∙ ap clock_told p)))
         where
-          old : (shows_clock (parse (without_end_lem l)) ≡ true) × (line_clock l ≡ clock_told (line_news sheet l))
-          old = (parse_of (parse (without_end_lem l))).0 (ap is_report p)
+          old : (shows_clock (parse (without_end l)) ≡ true) × (line_clock l ≡ clock_told (line_news sheet l))
+          old = (parse_of (parse (without_end l))).0 (ap is_report p)
 
-          new : (shows_clock (parse (without_end_lem next)) ≡ true) × (line_clock next ≡ clock_told (line_news sheet next))
-          new = (parse_of (parse (without_end_lem next))).0 (ap is_report q)
+          new : (shows_clock (parse (without_end next)) ≡ true) × (line_clock next ≡ clock_told (line_news sheet next))
+          new = (parse_of (parse (without_end next))).0 (ap is_report q)
 
           same : s.time ≡ t
-          same = some-injective s.time t (sym (ap clock_told q) ∙ (sym new.1 ∙ (sym (cond_true (shows_clock (parse (without_end_lem next))) (line_clock next) (next_clock rest) new.0) ∙ n)))
+          same = some-injective s.time t (sym (ap clock_told q) ∙ (sym new.1 ∙ (sym (cond_true (shows_clock (parse (without_end next))) (line_clock next) (next_clock rest) new.0) ∙ n)))
 
-  later_closes : (before : List (List ℕ)) (l : List ℕ) (seen : List (List ℕ)) (t : ℕ) → is_sampling_ok (parse (without_end_lem l)) ≡ false → next_clock seen ≡ some t
+  later_closes : (before : List (List ℕ)) (l : List ℕ) (seen : List (List ℕ)) (t : ℕ) → is_sampling_ok (parse (without_end l)) ≡ false → next_clock seen ≡ some t
       → Each (λ k. (u : ℕ) → line_clock k ≡ some u → u < t) (before ++ (l ∷ [])) → leaves_open sheet l seen ≡ false
   later_closes before l [] t other n h = absurd (none_some t n)
   later_closes before l (next ∷ rest) t other n h = later_not l next rest t other n (each_behind (λ k. (u : ℕ) → line_clock k ≡ some u → u < t) before (l ∷ []) h).0

@@ -19,7 +19,7 @@ use Rattle.message.proofs.MessageLaws.{line_end}
 use Rattle.line.specs.Line.{message, letter, title_byte, kind_byte, parse, WellFormed}
 use Rattle.line.proofs.ReadBack.{read_back, written_apart}
 use Rattle.machine.specs.Places.{Each, joined}
-use Rattle.machine.specs.TwoDevices.{without_end_lem}
+use Rattle.machine.specs.TwoDevices.{without_end}
 use Rattle.machine.specs.Cut.{start_with, whole_lines}
 use Rattle.machine.proofs.TestLaws.{and_true, cond_either, cond_false}
 
@@ -68,13 +68,13 @@ written_free m w = all_append (other 10) (m.kind ∷ m.name) (id_text m.id ++ ar
     (all_append (other 10) (id_text m.id) (args_text m.args []) (id_free m.id) (args_free m.args))
 
 -- a line without its end parses to its message
-pub without_end_lem : (m : Message) → without_end_lem (line m) ≡ write m
-without_end_lem m = ap without_end_lem (line_end m) ∙ (ap (λ n. take n (write m ++ (10 ∷ []))) shorter ∙ take-append_seam (write m) (10 ∷ []))
+pub without_end_lem : (m : Message) → without_end (line m) ≡ write m
+without_end_lem m = ap without_end (line_end m) ∙ (ap (λ n. take n (write m ++ (10 ∷ []))) shorter ∙ take-append_seam (write m) (10 ∷ []))
   where
     shorter : length (write m ++ (10 ∷ [])) - 1 ≡ length (write m)
     shorter = omega (arith, length-append (write m) (10 ∷ []))
 
-pub line_parses : (m : Message) → WellFormed m → parse (without_end_lem (line m)) ≡ message m
+pub line_parses : (m : Message) → WellFormed m → parse (without_end (line m)) ≡ message m
 line_parses m w = ap parse (without_end_lem m) ∙ read_back m w
 
 cut_file : (m : Message) (r : List ℕ) → line m ++ r ≡ write m ++ (10 ∷ r)

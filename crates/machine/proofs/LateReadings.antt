@@ -22,7 +22,7 @@ use Rattle.machine.specs.Range.{in_range}
 use Rattle.machine.specs.Opening.{Start}
 use Rattle.machine.specs.Messages.{status_for, inform_with, value_args, value_inform}
 use Rattle.machine.specs.Report.{Work}
-use Rattle.machine.specs.Declined.{Arrival, arrival, Action, Connect, Disconnect, Tick, Reading, Log, Line, Call, call_of, rows_behind_lem, reading_declined, action_declined, declined, refusal}
+use Rattle.machine.specs.Declined.{Arrival, arrival, Action, Connect, Disconnect, Tick, Reading, Log, Line, Call, call_of, rows_behind, reading_declined, action_declined, declined, refusal}
 use Rattle.machine.specs.Machine.{Effect, step, stored_given}
 use Rattle.machine.specs.TwoDevices.{after, sheet_of, returned_zero, packets_of, superseding, reading_by, last_reading, sample_from, time_from, clock_of}
 use Rattle.machine.specs.LateReadings.{Newer, Older, reading_step, LateReadings}
@@ -42,7 +42,7 @@ number_is s call = by_cases (λ (e : Effect). e.number ≡ declined s.sheet s ca
 
 -- the last of the rows is asked behind the others
 rows_last : (a b c d : Bool) (n last : ℕ)
-    → cond a 1 (cond b 2 (cond c 3 (cond d 9 (rows_behind_lem n last)))) ≡ rows_behind_lem (cond a 1 (cond b 2 (cond c 3 (cond d 9 (rows_behind_lem n 0))))) last
+    → cond a 1 (cond b 2 (cond c 3 (cond d 9 (rows_behind n last)))) ≡ rows_behind (cond a 1 (cond b 2 (cond c 3 (cond d 9 (rows_behind n 0))))) last
 rows_last true b c d n last = refl
 rows_last false true c d n last = refl
 rows_last false false true d n last = refl
@@ -50,17 +50,17 @@ rows_last false false false true n last = refl
 rows_last false false false false zero last = refl
 rows_last false false false false (suc n) last = rw (not_none n, not_none n) refl
 
-row_ahead : (s : State) (j : ℕ) (g : Given) (t : ℕ) (lent : List ℕ) → (reading_step s j g t lent).number ≡ rows_behind_lem (reading_step s j g 0 lent).number (cond (ltb s.clock t) 26 0)
+row_ahead : (s : State) (j : ℕ) (g : Given) (t : ℕ) (lent : List ℕ) → (reading_step s j g t lent).number ≡ rows_behind (reading_step s j g 0 lent).number (cond (ltb s.clock t) 26 0)
 unfolding declined action_declined reading_declined
 row_ahead s j g t lent = number_is s (call_of (Reading j (arrival g t)) lent)
     ∙ (rows_last (not (in_range s)) (ltb (length lent) 65536) s.halted (not_on_sheet s.sheet j) fit (cond (ltb s.clock t) 26 0)
-    ∙ ap (λ n. rows_behind_lem n (cond (ltb s.clock t) 26 0)) (sym (number_is s (call_of (Reading j (arrival g 0)) lent) ∙ at_zero)))
+    ∙ ap (λ n. rows_behind n (cond (ltb s.clock t) 26 0)) (sym (number_is s (call_of (Reading j (arrival g 0)) lent) ∙ at_zero)))
   where
     fit : ℕ
     fit = sampled_number (sample_of (sensor_of s.sheet j).kind (sensor_of s.sheet j).option_count g)
 
     -- no time 0 is above the clock
-    at_zero : declined s.sheet s (call_of (Reading j (arrival g 0)) lent) ≡ cond (not (in_range s)) 1 (cond (ltb (length lent) 65536) 2 (cond s.halted 3 (cond (not_on_sheet s.sheet j) 9 (rows_behind_lem fit 0))))
+    at_zero : declined s.sheet s (call_of (Reading j (arrival g 0)) lent) ≡ cond (not (in_range s)) 1 (cond (ltb (length lent) 65536) 2 (cond s.halted 3 (cond (not_on_sheet s.sheet j) 9 (rows_behind fit 0))))
     at_zero = rw (le-ltb s.clock 0 (omega arith)) refl
 
 refused_left : (s : State) (j : ℕ) (g : Given) (t : ℕ) (lent : List ℕ) → ((reading_step s j g t lent).number ≡ 0 → ⊥)

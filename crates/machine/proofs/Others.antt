@@ -20,7 +20,7 @@ use Rattle.machine.specs.Range.{in_range}
 use Rattle.machine.specs.Opening.{Start}
 use Rattle.machine.specs.Declined.{Action, Connect, Disconnect, Tick, Reading, Log, Line, Call, call_of}
 use Rattle.machine.specs.Machine.{step}
-use Rattle.machine.specs.TwoDevices.{after, returned_zero, packets_of, ends_all, without_end_lem}
+use Rattle.machine.specs.TwoDevices.{after, returned_zero, packets_of, ends_all, without_end}
 use Rattle.machine.specs.Others.{is_shared, shared_in, SharedCall, shared_of, shared_calls, others_end, OneDispatcher, is_named_as, lines_ever, of_sensors, of_others, AlikeFor, asks_end, OthersApart, OthersReach, OthersMet}
 use Rattle.machine.proofs.TestLaws.{or_false, or_true}
 use Rattle.machine.proofs.PlacesLaws.{each_weaker, only-append, only_within, only_reverse}
@@ -235,4 +235,4 @@ pub others_apart : OthersApart
 others_apart start a one two g = sym (within one) ∙ (ap (only (named of_sensors)) (others_reach.same_lines start a one two g) ∙ within two)
   where
     within : (calls : List Call) → only (named of_sensors) (only (named (λ name. not (of_others name))) (lines_ever start a (reverse calls))) ≡ only (named of_sensors) (lines_ever start a (reverse calls))
-    within calls = only_within (named of_sensors) (named (λ name. not (of_others name))) (λ l e. line_own (parse (without_end_lem l)) e) (lines_ever start a (reverse calls))
+    within calls = only_within (named of_sensors) (named (λ name. not (of_others name))) (λ l e. line_own (parse (without_end l)) e) (lines_ever start a (reverse calls))

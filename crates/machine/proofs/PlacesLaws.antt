@@ -8,7 +8,7 @@ use lib.Dec.{eqb, ltb}
 use lib.ListN.{length, get_or, replicate, length-append, get_or-append}
 use lib.Seq.{get_or-append_seam}
 use borrow.Author.Tests.{ltb-true, ltb-false, eqb-true}
-use Rattle.machine.specs.Places.{tabulate, gather, one_if, any, only, from_first, all_below, first_below_lem, has, Each}
+use Rattle.machine.specs.Places.{tabulate, gather, one_if, any, only, from_first, all_below, first_below, has, Each}
 use Rattle.machine.proofs.TestLaws.{cond_either, and_true, and_in, or_false, or_true, or_in, test_same, eqb_refl}
 use Rattle.output.specs.Text.{all}
 
@@ -157,49 +157,49 @@ below_same f g n h = test_same (all_below f n) (all_below g n)
     (λ k. below_of f n (λ p l. h p l ∙ below_at g n p k l))
 
 -- the first place where a test holds: it holds there, and nowhere before
-pub first_most : (f : ℕ → Bool) (n : ℕ) → first_below_lem f n ≤ n
-unfolding first_below_lem
+pub first_most : (f : ℕ → Bool) (n : ℕ) → first_below f n ≤ n
+unfolding first_below
 first_most f zero = omega arith
-first_most f (suc n) = go (ltb (first_below_lem f n) n) (f n) (first_most f n)
+first_most f (suc n) = go (ltb (first_below f n) n) (f n) (first_most f n)
   where
-    go : (b c : Bool) → first_below_lem f n ≤ n → cond b (first_below_lem f n) (cond c n (suc n)) ≤ suc n
+    go : (b c : Bool) → first_below f n ≤ n → cond b (first_below f n) (cond c n (suc n)) ≤ suc n
     go true c h = omega arith
     go false true h = omega arith
     go false false h = omega arith
 
-pub first_holds : (f : ℕ → Bool) (n : ℕ) → first_below_lem f n < n → f (first_below_lem f n) ≡ true
-unfolding first_below_lem
+pub first_holds : (f : ℕ → Bool) (n : ℕ) → first_below f n < n → f (first_below f n) ≡ true
+unfolding first_below
 first_holds f zero h = absurd (omega arith)
-first_holds f (suc n) h = go (ltb (first_below_lem f n) n) (f n) refl refl (first_holds f n) h
+first_holds f (suc n) h = go (ltb (first_below f n) n) (f n) refl refl (first_holds f n) h
   where
-    go : (b c : Bool) → ltb (first_below_lem f n) n ≡ b → f n ≡ c → (first_below_lem f n < n → f (first_below_lem f n) ≡ true)
-        → cond b (first_below_lem f n) (cond c n (suc n)) < suc n → f (cond b (first_below_lem f n) (cond c n (suc n))) ≡ true
-    go true c e g ih l = ih (ltb-true (first_below_lem f n) n e)
+    go : (b c : Bool) → ltb (first_below f n) n ≡ b → f n ≡ c → (first_below f n < n → f (first_below f n) ≡ true)
+        → cond b (first_below f n) (cond c n (suc n)) < suc n → f (cond b (first_below f n) (cond c n (suc n))) ≡ true
+    go true c e g ih l = ih (ltb-true (first_below f n) n e)
     go false true e g ih l = g
     go false false e g ih l = absurd (omega arith)
 
-pub first_none : (f : ℕ → Bool) (n j : ℕ) → first_below_lem f n ≡ n → j < n → f j ≡ false
-unfolding first_below_lem
+pub first_none : (f : ℕ → Bool) (n j : ℕ) → first_below f n ≡ n → j < n → f j ≡ false
+unfolding first_below
 first_none f zero j e h = absurd (omega arith)
-first_none f (suc n) j e h = go (ltb (first_below_lem f n) n) (f n) refl refl e (first_none f n j)
+first_none f (suc n) j e h = go (ltb (first_below f n) n) (f n) refl refl e (first_none f n j)
   where
-    go : (b c : Bool) → ltb (first_below_lem f n) n ≡ b → f n ≡ c → cond b (first_below_lem f n) (cond c n (suc n)) ≡ suc n
-        → (first_below_lem f n ≡ n → j < n → f j ≡ false) → f j ≡ false
-    go true c l g q ih = absurd (omega (arith, ltb-true (first_below_lem f n) n l))
+    go : (b c : Bool) → ltb (first_below f n) n ≡ b → f n ≡ c → cond b (first_below f n) (cond c n (suc n)) ≡ suc n
+        → (first_below f n ≡ n → j < n → f j ≡ false) → f j ≡ false
+    go true c l g q ih = absurd (omega (arith, ltb-true (first_below f n) n l))
     go false true l g q ih = absurd (omega arith)
     go false false l g q ih = last (ltb j n) refl
       where
         last : (b : Bool) → ltb j n ≡ b → f j ≡ false
-        last true r = ih (omega (arith, ltb-false (first_below_lem f n) n l, first_most f n)) (ltb-true j n r)
+        last true r = ih (omega (arith, ltb-false (first_below f n) n l, first_most f n)) (ltb-true j n r)
         last false r = let k : j ≡ n = omega (arith, ltb-false j n r) in ap f k ∙ g
 
 -- where a test holds at one place alone, that is the first
-pub first_is : (f : ℕ → Bool) (n j : ℕ) → j < n → f j ≡ true → ((i : ℕ) → i < n → f i ≡ true → i ≡ j) → first_below_lem f n ≡ j
-first_is f n j h t only = go (ltb (first_below_lem f n) n) refl
+pub first_is : (f : ℕ → Bool) (n j : ℕ) → j < n → f j ≡ true → ((i : ℕ) → i < n → f i ≡ true → i ≡ j) → first_below f n ≡ j
+first_is f n j h t only = go (ltb (first_below f n) n) refl
   where
-    go : (b : Bool) → ltb (first_below_lem f n) n ≡ b → first_below_lem f n ≡ j
-    go true e = only (first_below_lem f n) (ltb-true (first_below_lem f n) n e) (first_holds f n (ltb-true (first_below_lem f n) n e))
-    go false e = absurd (true≢false (sym t ∙ first_none f n j (omega (arith, ltb-false (first_below_lem f n) n e, first_most f n)) h))
+    go : (b : Bool) → ltb (first_below f n) n ≡ b → first_below f n ≡ j
+    go true e = only (first_below f n) (ltb-true (first_below f n) n e) (first_holds f n (ltb-true (first_below f n) n e))
+    go false e = absurd (true≢false (sym t ∙ first_none f n j (omega (arith, ltb-false (first_below f n) n e, first_most f n)) h))
 
 -- lists by place are equal where each place is
 pub tabulate_same : {A : Type 0} (f g : ℕ → A) (n : ℕ) → ((i : ℕ) → i < n → f i ≡ g i) → tabulate f n ≡ tabulate g n

@@ -9,7 +9,7 @@ use Rattle.value.specs.declared.Limits.{Limits}
 use Rattle.value.specs.declared.Sample.{Sample}
 use Rattle.value.specs.declared.Sampled.{Sampled}
 use Rattle.value.specs.declared.Sampled.TheVariants.{As, Unfit}
-use Rattle.value.specs.Reading.{zero_of, sample_of, number_fits_lem, sample_fits}
+use Rattle.value.specs.Reading.{zero_of, sample_of, number_fits, sample_fits}
 use Rattle.value.specs.Status.{is_nominal, is_warn, range_status, status_of}
 use Rattle.value.proofs.SampleLaws.{sample_fits_lem, fresh_fits}
 use Rattle.machine.specs.declared.Sensor.{Sensor}
@@ -31,8 +31,8 @@ use Rattle.machine.proofs.RangeLaws.{InRange, stored_is, sensors_of}
 -- Numbers.
 
 -- the type's zero is a number of the type
-zero_fits : (n : Sensor) → SensorRules n → number_fits_lem n.kind n.option_count (zero_of n.kind) ≡ true
-unfolding number_fits_lem zero_of
+zero_fits : (n : Sensor) → SensorRules n → number_fits n.kind n.option_count (zero_of n.kind) ≡ true
+unfolding number_fits zero_of
 zero_fits n r = go (eqb n.kind 1) (eqb n.kind 2) (eqb n.kind 3) (eqb n.kind 4) refl
   where
     go : (a b c d : Bool) → eqb n.kind 4 ≡ d → cond a (ltb (cond a (2 ^ 31) (cond b (2 ^ 30) 0)) (2 ^ 32)) (cond b (leb (cond a (2 ^ 31) (cond b (2 ^ 30) 0)) (2 ^ 31))
@@ -43,12 +43,12 @@ zero_fits n r = go (eqb n.kind 1) (eqb n.kind 2) (eqb n.kind 3) (eqb n.kind 4) r
     go false false false true e = lt-ltb 0 n.option_count (r.options_are.some (eqb-true n.kind 4 e))
     go false false false false e = refl
 
-pub sample_number : (n : Sensor) → SensorRules n → (x : Sample) → sample_ok n x ≡ true → number_fits_lem n.kind n.option_count x.number ≡ true
+pub sample_number : (n : Sensor) → SensorRules n → (x : Sample) → sample_ok n x ≡ true → number_fits n.kind n.option_count x.number ≡ true
 unfolding sample_fits
 sample_number n r x h = go (eqb x.kind 1) h
   where
-    go : (b : Bool) → cond b (number_fits_lem n.kind n.option_count x.number) (leb x.kind 4 && eqb x.number (zero_of n.kind)) ≡ true
-        → number_fits_lem n.kind n.option_count x.number ≡ true
+    go : (b : Bool) → cond b (number_fits n.kind n.option_count x.number) (leb x.kind 4 && eqb x.number (zero_of n.kind)) ≡ true
+        → number_fits n.kind n.option_count x.number ≡ true
     go true k = k
     go false k = rw (eqb-true x.number (zero_of n.kind) (and_true (leb x.kind 4) (eqb x.number (zero_of n.kind)) k).1) (zero_fits n r)
 

@@ -24,7 +24,7 @@ use Rattle.machine.specs.declared.Request.TheVariants.{ClientList, Halt, Help, L
 use Rattle.machine.specs.Sheet.{single, last_client, sensor_of, not_on_sheet}
 use Rattle.machine.specs.Range.{in_range}
 use Rattle.machine.specs.Requests.{Asked, Nothing, NotMessage, Reply, Unknown, Asks, asked, asked_by, asked_for, request_named, hidden, sends_only, answer}
-use Rattle.machine.specs.Declined.{Arrival, Call, rows_behind_lem, above_last, client_declined, reading_declined, action_declined, declined, Action, Connect, Disconnect, Tick, Reading, Log, Line, count_fits, arguments_declined, line_declined}
+use Rattle.machine.specs.Declined.{Arrival, Call, rows_behind, above_last, client_declined, reading_declined, action_declined, declined, Action, Connect, Disconnect, Tick, Reading, Log, Line, count_fits, arguments_declined, line_declined}
 use Rattle.machine.specs.Machine.{Effect, done, left, outcome, greeting, connect_sends, reading_stored, reading_work, perform, step, line_work}
 use Rattle.machine.proofs.TestLaws.{passed, or_true, not_none, cond_cases}
 use Rattle.machine.specs.State.{stored_of, supersedes, connected}
@@ -110,7 +110,7 @@ last_below profile = go (single profile)
 pub client_fits : (profile : ℕ) (refused : Bool) (c rest : ℕ) → client_declined profile refused c rest ≡ 0 → (c < 8) × ((refused ≡ false) × (rest ≡ 0))
 client_fits profile refused c rest e = let a = client_last profile refused c rest e in (omega (arith, a.0, last_below profile), a.1)
 
-pub rows_behind_lem : (before rest : ℕ) → rows_behind_lem before rest ≡ 0 → (before ≡ 0) × (rest ≡ 0)
+pub rows_behind_lem : (before rest : ℕ) → rows_behind before rest ≡ 0 → (before ≡ 0) × (rest ≡ 0)
 rows_behind_lem zero rest e = (refl, e)
 rows_behind_lem (suc n) rest e = absurd (omega (arith, rw (not_none n) at e))
 

@@ -14,7 +14,7 @@ use Rattle.output.proofs.ReadBack.{times, differences, whole_differences}
 use Rattle.machine.specs.declared.Sensor.{Sensor}
 use Rattle.machine.specs.declared.Strategy.{Strategy}
 use Rattle.machine.specs.declared.Strategy.TheVariants.{None, Auto, Period, Event, Differential, EventRate, DifferentialRate}
-use Rattle.machine.specs.Places.{all_below, first_below_lem}
+use Rattle.machine.specs.Places.{all_below, first_below}
 use Rattle.machine.specs.Range.{rates_ok, difference_ok, strategy_ok}
 use Rattle.machine.specs.Messages.{strategy_text, strategy_kind, difference_text, parameter_texts}
 use Rattle.machine.specs.Requests.{strategy_named, parameter_count, strategy_by}
@@ -34,7 +34,7 @@ numbers_of (EventRate a b) = a ∷ b ∷ []
 numbers_of (DifferentialRate d a b) = d ∷ a ∷ b ∷ []
 
 strategy_words : all_below (λ k. eqb (strategy_named (strategy_text k)) k) 7 ≡ true
-unfolding all_below first_below_lem strategy_named strategy_text
+unfolding all_below first_below strategy_named strategy_text
 strategy_words = refl
 
 pub strategy_named_lem : (k : ℕ) → k < 7 → strategy_named (strategy_text k) ≡ k

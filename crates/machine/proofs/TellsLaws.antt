@@ -22,7 +22,7 @@ use Rattle.machine.specs.Opening.{Start}
 use Rattle.machine.specs.Declined.{Call}
 use Rattle.machine.specs.Machine.{step}
 use Rattle.machine.specs.Reader.{Told, Impossible, news, View, view_after, view_by, no_view, view_of, standing, told_of}
-use Rattle.machine.specs.TwoDevices.{after, sheet_of, connected_at_end, lines_of, messages_of, strategy_of, last_report, later, without_end_lem}
+use Rattle.machine.specs.TwoDevices.{after, sheet_of, connected_at_end, lines_of, messages_of, strategy_of, last_report, later, without_end}
 use Rattle.machine.specs.Tells.{news_in, line_news, view_in, file_view, Known, ViewTells, reading_at, TellsAt, Tells}
 use Rattle.machine.specs.Cut.{whole_lines, FileCut}
 use Rattle.machine.proofs.TestLaws.{none_some}
@@ -45,7 +45,7 @@ view_lines sheet j [] v w = refl
 view_lines sheet j (m ∷ ms) v w = ap (λ p. view_in sheet j (map line ms) (view_after j (news_in sheet p) v)) (line_parses m w.0) ∙ view_lines sheet j ms _ w.1
 
 -- what holds of messages holds of their lines, read
-pub lines_read : (Q : Parse → Type 0) (ms : List Message) → Each WellFormed ms → Each (λ m. Q (message m)) ms → Each (λ l. Q (parse (without_end_lem l))) (map line ms)
+pub lines_read : (Q : Parse → Type 0) (ms : List Message) → Each WellFormed ms → Each (λ m. Q (message m)) ms → Each (λ l. Q (parse (without_end l))) (map line ms)
 lines_read Q [] w h = tt
 lines_read Q (m ∷ ms) w h = (subst Q (sym (line_parses m w.0)) h.0, lines_read Q ms w.1 h.1)
 

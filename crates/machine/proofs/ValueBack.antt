@@ -11,11 +11,11 @@ use Rattle.output.specs.Read.{read_time, read_integer, read_float, read_boolean}
 use Rattle.output.proofs.TextLaws.{same_refl, same_true}
 use Rattle.output.proofs.ReadBack.{booleans, times, integers, floats}
 use Rattle.value.specs.declared.Sample.{Sample}
-use Rattle.value.specs.Reading.{zero_of, number_fits_lem, sample_fits}
+use Rattle.value.specs.Reading.{zero_of, number_fits, sample_fits}
 use Rattle.value.specs.Status.{range_status, status_text}
 use Rattle.value.specs.Value.{value_text}
 use Rattle.machine.specs.declared.Sensor.{Sensor}
-use Rattle.machine.specs.Places.{all_below, first_below_lem}
+use Rattle.machine.specs.Places.{all_below, first_below}
 use Rattle.machine.specs.Sheet.{option_of}
 use Rattle.machine.specs.Range.{sample_ok}
 use Rattle.machine.specs.Messages.{status_for, value_for}
@@ -26,7 +26,7 @@ use Rattle.machine.proofs.SheetLaws.{SensorRules}
 use Rattle.machine.proofs.SampleRange.{range_valid, status_valid, valid_is}
 
 status_words : all_below (λ k. eqb (status_named (status_text k)) k) 7 ≡ true
-unfolding all_below first_below_lem status_named status_text
+unfolding all_below first_below status_named status_text
 status_words = refl
 
 pub status_named_lem : (k : ℕ) → k < 7 → status_named (status_text k) ≡ k
@@ -53,7 +53,7 @@ pub status_agrees : (n : Sensor) (x : Sample) → sample_ok n x ≡ true → agr
 unfolding sample_fits
 status_agrees n x h = go (eqb x.kind 1) refl h
   where
-    go : (b : Bool) → eqb x.kind 1 ≡ b → cond b (number_fits_lem n.kind n.option_count x.number) (leb x.kind 4 && eqb x.number (zero_of n.kind)) ≡ true
+    go : (b : Bool) → eqb x.kind 1 ≡ b → cond b (number_fits n.kind n.option_count x.number) (leb x.kind 4 && eqb x.number (zero_of n.kind)) ≡ true
         → agrees n (status_for n x) x.number ≡ true
     go true e k = ap (λ st. agrees n st x.number) (status_valid n x (eqb-true x.kind 1 e)) ∙ range_agrees n x.number
     go false e k = zero_agrees n (status_for n x) x.number (sym (valid_is n x) ∙ e) (and_true (leb x.kind 4) (eqb x.number (zero_of n.kind)) k).1
@@ -71,8 +71,8 @@ unfolding read_option
 option_read n r v h = rw (option_named_lem n r v h, lt-ltb v n.option_count h)
 
 -- a value of a sensor reads back
-pub value_read : (n : Sensor) → SensorRules n → (v : ℕ) → number_fits_lem n.kind n.option_count v ≡ true → read_value n (value_for n v) ≡ some v
-unfolding read_value value_for value_text number_fits_lem
+pub value_read : (n : Sensor) → SensorRules n → (v : ℕ) → number_fits n.kind n.option_count v ≡ true → read_value n (value_for n v) ≡ some v
+unfolding read_value value_for value_text number_fits
 value_read n r v h = go (eqb n.kind 1) (eqb n.kind 2) (eqb n.kind 3) (eqb n.kind 4) h
   where
     go : (a b c d : Bool) → cond a (ltb v (2 ^ 32)) (cond b (leb v (2 ^ 31)) (cond c (leb v 1) (cond d (ltb v n.option_count) (leb v 9999999999999)))) ≡ true

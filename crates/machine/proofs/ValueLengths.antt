@@ -12,7 +12,7 @@ use Rattle.output.specs.Read.{in_integer, in_float}
 use Rattle.output.proofs.LengthLaws.{length-decimal, length-time, length-integer, length_float}
 use Rattle.value.specs.declared.Limits.{Limits}
 use Rattle.value.specs.declared.Sample.{Sample}
-use Rattle.value.specs.Reading.{is_measured, number_fits_lem}
+use Rattle.value.specs.Reading.{is_measured, number_fits}
 use Rattle.value.specs.Value.{value_text}
 use Rattle.machine.specs.declared.Sensor.{Sensor}
 use Rattle.machine.specs.Places.{tabulate, Each}
@@ -32,8 +32,8 @@ option_short n r v l = text_short (r.options_are.option_is v l)
 
 -- Values.
 
-value_short : (n : Sensor) → SensorRules n → (v : ℕ) → number_fits_lem n.kind n.option_count v ≡ true → length (value_for n v) ≤ 19
-unfolding number_fits_lem value_for value_text
+value_short : (n : Sensor) → SensorRules n → (v : ℕ) → number_fits n.kind n.option_count v ≡ true → length (value_for n v) ≤ 19
+unfolding number_fits value_for value_text
 value_short n r v h = go (eqb n.kind 1) (eqb n.kind 2) (eqb n.kind 3) (eqb n.kind 4) h
   where
     go : (a b c d : Bool)
@@ -50,8 +50,8 @@ sample_short n r x h = value_short n r x.number (sample_number n r x h)
 
 -- Limits and options.
 
-limit_fits : (t options v : ℕ) → 1 ≤ t → t ≤ 2 → limit_ok t v ≡ true → number_fits_lem t options v ≡ true
-unfolding number_fits_lem
+limit_fits : (t options v : ℕ) → 1 ≤ t → t ≤ 2 → limit_ok t v ≡ true → number_fits t options v ≡ true
+unfolding number_fits
 limit_fits t options v h k l = go (eqb t 1) refl l
   where
     go : (b : Bool) → eqb t 1 ≡ b → cond b (in_integer v) (in_float v) ≡ true

@@ -11,7 +11,7 @@ use Rattle.line.specs.Line.{parse, WellFormed}
 use Rattle.machine.specs.Places.{gather, only, Each}
 use Rattle.machine.specs.Declined.{Call}
 use Rattle.machine.specs.Machine.{step}
-use Rattle.machine.specs.TwoDevices.{after, sent_to, lines_to, without_end_lem}
+use Rattle.machine.specs.TwoDevices.{after, sent_to, lines_to, without_end}
 use Rattle.machine.specs.Others.{of_others, is_named_as, lines_ever, sent_ever}
 use Rattle.machine.proofs.PlacesLaws.{each_append, only-append}
 use Rattle.machine.proofs.HeardLaws.{sent-append}
@@ -65,7 +65,7 @@ gather_told a f g (suc n) h = told-append a (gather f n) (f n) ∙ (ap₂ ◌++�
 
 -- one whose message has a name that passes the test
 abbrev pub named : (List ℕ → Bool) → List ℕ → Bool
-named is l = is_named_as is (parse (without_end_lem l))
+named is l = is_named_as is (parse (without_end l))
 
 -- the lines of messages by the messages
 only_lines : (is : List ℕ → Bool) (ms : List Message) → Each WellFormed ms → only (named is) (map line ms) ≡ map line (only (λ (m : Message). is m.name) ms)

@@ -10,29 +10,29 @@ use Rattle.output.specs.Text.{same}
 use Rattle.texts.specs.Table.{words_of, word_count, word_of, place_in, place_of}
 use Rattle.texts.proofs.TableLaws.{pick_at}
 use Rattle.machine.specs.declared.Request.{Request}
-use Rattle.machine.specs.Places.{first_below_lem}
+use Rattle.machine.specs.Places.{first_below}
 use Rattle.machine.specs.Requests.{Row, request_in, requests, request_named}
 use Rattle.machine.proofs.FirstLaws.{first_on, first_at}
 
 -- j places are passed, and the words ws follow
-place_from : (f : ℕ → Bool) (word : List ℕ) (ws : List (List ℕ)) (j : ℕ) → first_below_lem f j ≡ j → ((k : ℕ) → k < length ws → f (j + k) ≡ same (get_or ws k []) word)
-    → first_below_lem f (j + length ws) ≡ j + place_in ws word
+place_from : (f : ℕ → Bool) (word : List ℕ) (ws : List (List ℕ)) (j : ℕ) → first_below f j ≡ j → ((k : ℕ) → k < length ws → f (j + k) ≡ same (get_or ws k []) word)
+    → first_below f (j + length ws) ≡ j + place_in ws word
 place_from f word [] j e h = let z : j + 0 ≡ j = omega arith in rw z e
 place_from f word (w ∷ ws) j e h = go (same w word) refl (λ p. place_from f word ws (j + 1) p (λ k l. let c : j + 1 + k ≡ j + suc k = omega arith in rw c (h (suc k) (omega arith))))
   where
     here : f j ≡ same w word
     here = let z : j + 0 ≡ j = omega arith in rw z at (h 0 (omega arith))
 
-    go : (b : Bool) → same w word ≡ b → (first_below_lem f (j + 1) ≡ j + 1 → first_below_lem f (j + 1 + length ws) ≡ j + 1 + place_in ws word)
-        → first_below_lem f (j + suc (length ws)) ≡ j + cond b 0 (suc (place_in ws word))
+    go : (b : Bool) → same w word ≡ b → (first_below f (j + 1) ≡ j + 1 → first_below f (j + 1 + length ws) ≡ j + 1 + place_in ws word)
+        → first_below f (j + suc (length ws)) ≡ j + cond b 0 (suc (place_in ws word))
     go true s on = let z : j + 0 ≡ j = omega arith in first_at f j e (here ∙ s) (j + suc (length ws)) (omega arith) ∙ sym z
     go false s on =
         let a : j + suc (length ws) ≡ j + 1 + length ws = omega arith in
         let b : j + suc (place_in ws word) ≡ j + 1 + place_in ws word = omega arith in
         rw (a, b) (on (first_on f j e (here ∙ s)))
 
-pub place_first : (table word : List ℕ) → place_of table word ≡ first_below_lem (λ k. same (word_of table k) word) (word_count table)
-unfolding place_of word_of first_below_lem
+pub place_first : (table word : List ℕ) → place_of table word ≡ first_below (λ k. same (word_of table k) word) (word_count table)
+unfolding place_of word_of first_below
 place_first table word =
     let r = place_from (λ k. same (word_of table k) word) word (words_of table) 0 refl (λ k h. let z : 0 + k ≡ k = omega arith in rw z (ap (λ (w : List ℕ). same w word) (pick_at (words_of table) k h))) in
     let a : 0 + word_count table ≡ word_count table = omega arith in

@@ -12,7 +12,7 @@ use Rattle.output.specs.Text.{run, same}
 use Rattle.output.proofs.RunLaws.{run_le, run_take}
 use Rattle.texts.proofs.At.{to_end}
 use Rattle.machine.specs.declared.Sheet.{Sheet}
-use Rattle.machine.specs.Places.{any, first_below_lem, twice}
+use Rattle.machine.specs.Places.{any, first_below, twice}
 use Rattle.machine.specs.Sheet.{sensor_of, name_of}
 use Rattle.machine.proofs.FirstLaws.{first_on, first_at}
 use Rattle.machine.proofs.PlacesLaws.{first_most}
@@ -30,10 +30,10 @@ named sheet name j = same (name_of (sensor_of sheet j)) name
 -- no place before j has it
 pub record Searching (sheet : Sheet) (name : List ℕ) (j : ℕ) : Type 0 where
   pub within : j ≤ held sheet
-  pub passed : first_below_lem (named sheet name) j ≡ j
+  pub passed : first_below (named sheet name) j ≡ j
 
 pub searching : (sheet : Sheet) (name : List ℕ) → Searching sheet name 0
-unfolding first_below_lem
+unfolding first_below
 searching sheet name = record { within = omega arith; passed = refl }
 
 module _ {sheet : Sheet} {name : List ℕ} {j : ℕ} (f : Searching sheet name j) where
@@ -47,7 +47,7 @@ module _ {sheet : Sheet} {name : List ℕ} {j : ℕ} (f : Searching sheet name j
 
   pub searching_none : held sheet ≤ j → j ≡ place_in sheet name
   unfolding place_in
-  searching_none k = let e : j ≡ held sheet = omega (arith, f.within) in sym f.passed ∙ ap (first_below_lem (named sheet name)) e
+  searching_none k = let e : j ≡ held sheet = omega (arith, f.within) in sym f.passed ∙ ap (first_below (named sheet name)) e
 
 -- a place that is not the count is that of a sensor
 pub place_known : (sheet : Sheet) (name : List ℕ) {j : ℕ} → j ≡ place_in sheet name → (j ≡ held sheet → ⊥) → j < held sheet

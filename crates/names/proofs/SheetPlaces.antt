@@ -9,7 +9,7 @@ use lib.ListN.{length}
 use borrow.Author.Tests.{leb-false}
 use Rattle.output.specs.Text.{same}
 use Rattle.machine.specs.declared.Sheet.{Sheet}
-use Rattle.machine.specs.Places.{tabulate, any, first_below_lem, twice, Each}
+use Rattle.machine.specs.Places.{tabulate, any, first_below, twice, Each}
 use Rattle.machine.specs.Sheet.{sensor_of, name_of, place_of, not_on_sheet}
 use Rattle.machine.specs.Requests.{all_places, split}
 use Rattle.machine.specs.Declined.{places_declined}
@@ -43,7 +43,7 @@ module _ (sheet : Sheet) (h : sheet.count ≤ 32) where
 
   pub place_is : (name : List ℕ) → place_in sheet name ≡ place_of sheet name
   unfolding place_in place_of
-  place_is name = ap (first_below_lem (λ j. same (name_of (sensor_of sheet j)) name)) held_is
+  place_is name = ap (first_below (λ j. same (name_of (sensor_of sheet j)) name)) held_is
 
   pub named_are : (names : List ℕ) → places_named sheet names ≡ map (place_of sheet) (split names)
   unfolding places_named

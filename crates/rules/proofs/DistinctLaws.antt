@@ -14,7 +14,7 @@ use Rattle.machine.specs.Sheet.{no_choice, sensor_of, name_of, option_of, text_o
 use Rattle.machine.proofs.TestLaws.{cond_true, and_then}
 use Rattle.machine.proofs.PlacesLaws.{below_at}
 use Rattle.machine.proofs.SheetLaws.{text_out, sensor_out}
-use Rattle.rules.specs.Apart.{choices_apart, names_apart_lem}
+use Rattle.rules.specs.Apart.{choices_apart, names_apart}
 use Rattle.rules.specs.Keys.{name_keys, keys_apart}
 use Rattle.rules.proofs.KeyLaws.{names_by_keys}
 use Rattle.rules.proofs.ApartLaws.{Padded, apart_distinct}
@@ -51,9 +51,9 @@ options_are n l w long =
 
 -- at most 32 sensors, each keeps its rules, and their names are apart
 pub sensors_are : (sheet : Sheet) → ((j : ℕ) → j < 32 → length (sensor_of sheet j).name ≡ 32)
-    → (leb sheet.count 32 && (all_below (sensor_ok_at sheet) 32 && names_apart_lem sheet)) ≡ sensors_ok sheet
-unfolding sensors_ok names_apart_lem
-sensors_are sheet long = and_then (leb sheet.count 32) (all_below (sensor_ok_at sheet) 32) (names_apart_lem sheet) (distinct (λ j. name_of (sensor_of sheet j)) sheet.count)
+    → (leb sheet.count 32 && (all_below (sensor_ok_at sheet) 32 && names_apart sheet)) ≡ sensors_ok sheet
+unfolding sensors_ok names_apart
+sensors_are sheet long = and_then (leb sheet.count 32) (all_below (sensor_ok_at sheet) 32) (names_apart sheet) (distinct (λ j. name_of (sensor_of sheet j)) sheet.count)
     (λ counted each. apart_distinct 32 32 sheet.count (λ j. (sensor_of sheet j).name_len) (λ j. (sensor_of sheet j).name) (leb-true sheet.count 32 counted) (padded (leb-true sheet.count 32 counted) each))
   where
     padded : sheet.count ≤ 32 → all_below (sensor_ok_at sheet) 32 ≡ true → (j : ℕ) → j < sheet.count → Padded 32 (sensor_of sheet j).name_len (sensor_of sheet j).name
@@ -66,7 +66,7 @@ pub sensors_keyed : (sheet : Sheet) → ((j : ℕ) → j < 32 → length (sensor
     → (leb sheet.count 32 && all_below (sensor_ok_at sheet) 32) ≡ sensors_ok sheet
 sensors_keyed sheet long once = go (leb sheet.count 32) refl ∙ sensors_are sheet long
   where
-    go : (b : Bool) → leb sheet.count 32 ≡ b → (b && all_below (sensor_ok_at sheet) 32) ≡ (b && (all_below (sensor_ok_at sheet) 32 && names_apart_lem sheet))
+    go : (b : Bool) → leb sheet.count 32 ≡ b → (b && all_below (sensor_ok_at sheet) 32) ≡ (b && (all_below (sensor_ok_at sheet) 32 && names_apart sheet))
     go true e =
         let w = leb-true sheet.count 32 e in
         let m : min sheet.count 32 ≡ sheet.count = omega arith in

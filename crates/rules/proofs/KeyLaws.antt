@@ -15,7 +15,7 @@ use Rattle.machine.specs.Places.{all_below, tabulate}
 use Rattle.machine.specs.Sheet.{no_choice, sensor_of}
 use Rattle.machine.proofs.TestLaws.{and_true, cond_true, cond_cases}
 use Rattle.machine.proofs.PlacesLaws.{below_at, below_of, length-tabulate, get_or-tabulate}
-use Rattle.rules.specs.Apart.{alike, apart_at, choices_apart, names_apart_lem}
+use Rattle.rules.specs.Apart.{alike, apart_at, choices_apart, names_apart}
 use Rattle.rules.specs.Keys.{choice_key, name_key, choice_keys, name_keys, how_many, keys_apart}
 use Rattle.rules.proofs.ApartLaws.{apart_pairs}
 
@@ -96,8 +96,8 @@ choices_by_keys count os w once =
     key_at k = choice_key (get_or os k no_choice).text
 
 -- names whose keys stand once each are apart
-pub names_by_keys : (sheet : Sheet) → sheet.count ≤ 32 → keys_apart (name_keys sheet) sheet.count ≡ true → names_apart_lem sheet ≡ true
-unfolding names_apart_lem name_keys
+pub names_by_keys : (sheet : Sheet) → sheet.count ≤ 32 → keys_apart (name_keys sheet) sheet.count ≡ true → names_apart sheet ≡ true
+unfolding names_apart name_keys
 names_by_keys sheet w once =
     texts_by_keys 32 sheet.count (λ j. (sensor_of sheet j).name_len) (λ j. (sensor_of sheet j).name) name_key (name_keys sheet) w
     (λ j l. get_or-tabulate (λ j. name_key (sensor_of sheet j).name) 32 j 0 (omega arith))

@@ -14,7 +14,7 @@ use Rattle.line.specs.Line.{blank, letter, title_byte, kind_byte, plain, escape_
 use Rattle.machine.specs.declared.Sheet.{Sheet}
 use Rattle.machine.specs.declared.State.{State}
 use Rattle.machine.specs.declared.Opened.{Opened}
-use Rattle.machine.specs.Places.{tabulate, gather, first_below_lem, from_first}
+use Rattle.machine.specs.Places.{tabulate, gather, first_below, from_first}
 use Rattle.machine.specs.Sheet.{sheet_ok, titles_ok, sensors_ok, graphic, text_fits}
 use Rattle.machine.specs.State.{fresh, with_level, with_client, client_at}
 use Rattle.machine.specs.Range.{in_range}
@@ -66,7 +66,7 @@ module _ (lent next : List ℕ) where
     with_console_in_range = subst (λ (e : Effect). in_range e.next ≡ true) connect_done (kept_in_range.step_in_range (fresh sheet) fresh_in_range (call_of connecting lent))
 
     asking_fits : action_declined sheet with_console asking ≡ 0
-    unfolding with_client tabulate first_below_lem action_declined client_declined hidden line_declined count_fits arguments_declined level_of level_text asked request_named is_digit blank letter title_byte kind_byte plain escape_of parse blank_line
+    unfolding with_client tabulate first_below action_declined client_declined hidden line_declined count_fits arguments_declined level_of level_text asked request_named is_digit blank letter title_byte kind_byte plain escape_of parse blank_line
     asking_fits = refl
 
     asking_done : step with_console (call_of asking next) ≡ done (perform sheet with_console asking)
@@ -78,7 +78,7 @@ module _ (lent next : List ℕ) where
     heard = refl
 
     level_set : perform sheet with_console asking ≡ record { sent = to 0 answered ∷ []; next = with_level with_console 4 }
-    unfolding first_below_lem perform line_work answer level_of level_text asked request_named is_digit blank letter title_byte kind_byte plain escape_of parse blank_line
+    unfolding first_below perform line_work answer level_of level_text asked request_named is_digit blank letter title_byte kind_byte plain escape_of parse blank_line
     level_set = refl
 
     facts : Facts (fresh sheet)

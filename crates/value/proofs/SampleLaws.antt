@@ -16,7 +16,7 @@ use Rattle.value.specs.declared.Sampled.{Sampled}
 use Rattle.value.specs.declared.Sampled.TheVariants.{As, Unfit}
 use Rattle.value.specs.Double.{of_double, exact1024}
 use Rattle.value.specs.Integer.{biased_integer, is_signed32}
-use Rattle.value.specs.Reading.{sample, valid, only_for, below, of_integer, of_fit, zero_of, invalid, fresh, sample_of, number_fits_lem, sample_fits}
+use Rattle.value.specs.Reading.{sample, valid, only_for, below, of_integer, of_fit, zero_of, invalid, fresh, sample_of, number_fits, sample_fits}
 use Rattle.value.proofs.DoubleLaws.{exact_stands}
 
 -- ---- what a sample was made of
@@ -56,7 +56,7 @@ exact_le (ieee.fin s m e) n h = (exact_stands s m e n h).1
 -- ---- the samples
 
 -- a valid sample of type k
-number_fits_lem : (t k options n : ℕ) (x : Sample) → t ≡ k → x ≡ sample 1 n → number_fits_lem k options n ≡ true → sample_fits t options x ≡ true
+number_fits_lem : (t k options n : ℕ) (x : Sample) → t ≡ k → x ≡ sample 1 n → number_fits k options n ≡ true → sample_fits t options x ≡ true
 unfolding sample_fits
 number_fits_lem t k options n x e f h = rw (f, e) h
 
@@ -69,7 +69,7 @@ other_fits t options k x e l h =
 
 -- what a reading becomes
 pub sample_fits_lem : (t options : ℕ) (r : Reading) (x : Sample) → sample_of t options r ≡ As x → sample_fits t options x ≡ true
-unfolding sample_of number_fits_lem
+unfolding sample_of number_fits
 sample_fits_lem t options (Integer z) x h =
     let a = only_for_as t 1 (of_integer z) x h in
     let b = test_as (is_signed32 z) (biased_integer z) x a.1 in

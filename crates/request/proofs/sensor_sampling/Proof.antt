@@ -38,7 +38,7 @@ sensor-sampling-spec =
     tie.close (tie.spec (λ c κs. search rules) (λ c. search rules)
     (λ c κs. let c1 = c.before.before.before in let c2 = c1.before.before in (short _ _ c2.requires.heard.read, refl))
     (λ c. search rules) slice-aggregate-names (λ c κs. search rules) (λ c. search rules)
-    (λ c κs. let c1 = c.before.before.before.before in let scan = c1 in (scan.before.before.before.before.before.before.before.before.before.requires.heard.client, (own scan).first_below))
+    (λ c κs. let c1 = c.before.before.before.before in let scan = c1 in (scan.before.before.before.before.before.before.before.before.before.requires.heard.client, (own scan).first_below_lem))
     (λ c. search rules) returns (λ c. (own c.before.before.before).long) (λ c. (own c.before.before.before.before).many) (λ c κs. search rules)
     (λ c. let c1 = c.before.before.before in let c2 = c1.before.before in (own c2).long)
     (λ c. let c1 = c.before.before.before in let c2 = c1.before.before.before in (own c2).many)

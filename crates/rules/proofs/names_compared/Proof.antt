@@ -5,7 +5,7 @@ use native.Mathlib.Omega.{arith}
 use mathlib.Core.Path.{◌≡◌, refl, sym}
 use borrow.Author.Rules.{rules}
 use Rattle.machine.specs.Places.{all_below}
-use Rattle.rules.specs.Apart.{apart_at, names_alike, names_apart_lem}
+use Rattle.rules.specs.Apart.{apart_at, names_alike, names_apart}
 use Rattle.rules.proofs.ElementLaws.{names_long}
 use Rattle.rules.proofs.names_compared.Statement.{statement}
 use Rattle.rules.proofs.names_compared.Tie as tie
@@ -25,7 +25,7 @@ unfolding all_below apart_at
 loop-again c = let c1 = c.before.before.before.before in let c2 = c1.before.before.before.before in (omega arith, rw (add-one, c2.loop.invariant.1, c.alike-texts.ensures))
 
 returns : tie.Need-returns invariant-loop decreases-loop
-unfolding names_apart_lem
+unfolding names_apart
 returns c = let e : c.before.loop.q ≡ 1024 = omega arith in rw (c.before.loop.invariant.1, e)
 
 pub names-compared-spec : {M : Type 1} → statement M
