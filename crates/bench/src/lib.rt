@@ -16,7 +16,7 @@ use value::Reading;
 
 // What is called over and over: connecting clients that each send a line; connecting one client and disconnecting it; ticks; readings; lines of
 // client 0.
-#[derive(Drop)]
+#[derive(Clone, Copy)]
 pub enum Round {
     Setup,
     Connect,
@@ -26,7 +26,7 @@ pub enum Round {
 }
 
 // The state after some calls, and how many of them were taken.
-#[derive(Drop)]
+#[derive(Clone, Copy)]
 pub struct Repeated {
     pub state: State,
     pub taken: u64,

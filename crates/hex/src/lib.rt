@@ -5,7 +5,7 @@ ghost use Rattle.output.specs.Text.{all};
 ghost use Rattle.hex.specs.Hex as spec;
 
 // 64 bits, or that a word has not as many digits.
-#[derive(Drop)]
+#[derive(Clone, Copy)]
 pub enum Bits {
     Are(u64),
     Bad,

@@ -8,14 +8,14 @@ ghost use Rattle.input.specs.Window.{kept, first};
 use numbers::Number;
 
 // The bytes of a buffer that were read and are not used yet: those from `from` up to `to`.
-#[derive(Drop)]
+#[derive(Clone, Copy)]
 pub struct Window {
     pub from: usize,
     pub to: usize,
 }
 
 // A signed number, or that the text is none.
-#[derive(Drop)]
+#[derive(Clone, Copy)]
 pub enum Integer {
     Is(i32),
     Bad,

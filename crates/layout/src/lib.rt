@@ -10,39 +10,39 @@ use machine::{Choice, Sensor, Sheet};
 use value::{Fit, Limits};
 
 // A place in the sheet's bytes: how many of them stand before it.
-#[derive(Drop)]
+#[derive(Clone, Copy)]
 pub struct Cursor {
     pub at: usize,
 }
 
 // A byte and the place behind it, or the sheet ends there.
-#[derive(Drop)]
+#[derive(Clone, Copy)]
 pub enum ByteTaken {
     Byte(u8, Cursor),
     NoByte,
 }
 
 // Where a text starts, and where it ends.
-#[derive(Drop)]
+#[derive(Clone, Copy)]
 pub enum TextTaken {
     Span(usize, usize),
     NoText,
 }
 
-#[derive(Drop)]
+#[derive(Clone, Copy)]
 pub enum NumberTaken {
     Number(u64, Cursor),
     NoNumber,
 }
 
-#[derive(Drop)]
+#[derive(Clone, Copy)]
 pub enum LimitsTaken {
     These(Limits, Cursor),
     NoLimits,
 }
 
 // An option and the place behind it, where `taken`.
-#[derive(Drop)]
+#[derive(Clone, Copy)]
 pub struct ChoiceTaken {
     pub taken: bool,
     pub choice: Choice,
@@ -50,7 +50,7 @@ pub struct ChoiceTaken {
 }
 
 // A sensor and the place behind it, where `taken`.
-#[derive(Drop)]
+#[derive(Clone, Copy)]
 pub struct SensorTaken {
     pub taken: bool,
     pub sensor: Sensor,
@@ -58,7 +58,7 @@ pub struct SensorTaken {
 }
 
 // A sheet and the place behind it, where `taken`.
-#[derive(Drop)]
+#[derive(Clone, Copy)]
 pub struct SheetTaken {
     pub taken: bool,
     pub sheet: Sheet,

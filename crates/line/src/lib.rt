@@ -13,7 +13,7 @@ use texts::Class;
 pub const LONGEST: usize = 2048;
 
 // What a backslash and a letter stand for.
-#[derive(Drop)]
+#[derive(Clone, Copy)]
 pub enum Meaning {
     Byte(u8),
     Nothing,
@@ -21,28 +21,28 @@ pub enum Meaning {
 }
 
 // A message identifier: 0 for none.
-#[derive(Drop)]
+#[derive(Clone, Copy)]
 pub enum Identifier {
     Bad,
     Is(u64),
 }
 
 // The number of arguments of a line, where each is well formed.
-#[derive(Drop)]
+#[derive(Clone, Copy)]
 pub enum Count {
     Refused,
     Are(usize),
 }
 
 // Where a word starts, and where it ends.
-#[derive(Drop)]
+#[derive(Clone, Copy)]
 pub struct Span {
     pub from: usize,
     pub to: usize,
 }
 
 // A message's kind byte, the length of its name, its identifier (0 for none) and the number of its arguments.
-#[derive(Drop)]
+#[derive(Clone, Copy)]
 pub struct Header {
     pub kind: u8,
     pub name: usize,
@@ -51,14 +51,14 @@ pub struct Header {
 }
 
 // What a line is: no message, or a message.
-#[derive(Drop)]
+#[derive(Clone, Copy)]
 pub enum Parsed {
     Malformed,
     Message(Header),
 }
 
 // What became of a text that was to be copied into a buffer: its length, or that the buffer is too short.
-#[derive(Drop)]
+#[derive(Clone, Copy)]
 pub enum Copied {
     Whole(usize),
     Short,

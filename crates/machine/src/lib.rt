@@ -44,7 +44,7 @@ pub const LONGEST_TITLE: u8 = TITLE as u8;
 pub const LONGEST_ADDRESS: u8 = ADDRESS as u8;
 
 // An option of a discrete sensor: the first `len` bytes of `text`.
-#[derive(Drop)]
+#[derive(Clone, Copy)]
 pub struct Choice {
     pub text: [u8; OPTION],
     pub len: u8,
@@ -52,7 +52,7 @@ pub struct Choice {
 
 // A sensor as the sheet has it. A text is the first `_len` bytes of its array; the type is 1 integer, 2 float, 3 boolean, 4 discrete,
 // 5 timestamp; limits and options are those of the types that have them.
-#[derive(Drop)]
+#[derive(Clone, Copy)]
 pub struct Sensor {
     pub name: [u8; NAME],
     pub name_len: u8,
@@ -67,7 +67,7 @@ pub struct Sensor {
 }
 
 // What the unit was opened with: the texts and the first `count` sensors of its sheet, and the profile, 1 for a single client.
-#[derive(Drop)]
+#[derive(Clone, Copy)]
 pub struct Sheet {
     pub api: [u8; TITLE],
     pub api_len: u8,
@@ -79,7 +79,7 @@ pub struct Sheet {
 }
 
 // A strategy with its parameters: periods in milliseconds, differences in millionths; shortest before longest.
-#[derive(Drop)]
+#[derive(Clone, Copy)]
 pub enum Strategy {
     None,
     Auto,
@@ -91,7 +91,7 @@ pub enum Strategy {
 }
 
 // What a client has asked for a sensor, and the last report it was sent, if `reported`.
-#[derive(Drop)]
+#[derive(Clone, Copy)]
 pub struct Subscription {
     pub strategy: Strategy,
     pub reported: bool,
@@ -100,14 +100,14 @@ pub struct Subscription {
 }
 
 // A sensor's reading and its own time.
-#[derive(Drop)]
+#[derive(Clone, Copy)]
 pub struct Stored {
     pub sample: Sample,
     pub time: u64,
 }
 
 // A client: unconnected, or with the first `address_len` bytes of its address.
-#[derive(Drop)]
+#[derive(Clone, Copy)]
 pub struct Client {
     pub connected: bool,
     pub address: [u8; ADDRESS],
@@ -115,7 +115,7 @@ pub struct Client {
 }
 
 // The whole state. The subscription of client c to sensor j stands at place c * 32 + j.
-#[derive(Drop)]
+#[derive(Clone, Copy)]
 pub struct State {
     pub sheet: Sheet,
     pub clock: u64,
@@ -127,14 +127,14 @@ pub struct State {
 }
 
 // What opening a sheet answers.
-#[derive(Drop)]
+#[derive(Clone, Copy)]
 pub struct Opened {
     pub number: u8,
     pub state: State,
 }
 
 // What every other call answers: its number, how many bytes of the lent output it wrote, and the next state.
-#[derive(Drop)]
+#[derive(Clone, Copy)]
 pub struct Answer {
     pub number: u8,
     pub written: usize,
@@ -142,7 +142,7 @@ pub struct Answer {
 }
 
 // The requests.
-#[derive(Drop)]
+#[derive(Clone, Copy)]
 pub enum Request {
     ClientList,
     Halt,
@@ -157,14 +157,14 @@ pub enum Request {
 }
 
 // The request of a name, or that there is none of it.
-#[derive(Drop)]
+#[derive(Clone, Copy)]
 pub enum Found {
     Is(Request),
     Unknown,
 }
 
 // Why subscriptions are visited: a tick, or a reading of a sensor.
-#[derive(Drop)]
+#[derive(Clone, Copy)]
 pub enum Cause {
     Tick,
     Reading(usize),

@@ -8,7 +8,7 @@ ghost use Rattle.names.specs.Scan as scans;
 use machine::{Sensor, Sheet};
 
 // The sensors that a request names, by their places: the first `count` of `places`. Where a row declines them, its number, and none.
-#[derive(Drop)]
+#[derive(Clone, Copy)]
 pub struct Listed {
     pub number: u8,
     pub count: usize,

@@ -36,7 +36,7 @@ pub const LAST_DIFFERENCE: u64 = 2097152000000;
 const LAST_WHOLE_DIFFERENCE: u64 = 4294967295000000;
 
 // A number that was read, or that the text is none.
-#[derive(Drop)]
+#[derive(Clone, Copy)]
 pub enum Number {
     Is(u64),
     Bad,

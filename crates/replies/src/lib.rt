@@ -15,7 +15,7 @@ ghost use Rattle.replies.specs.Asking.{asking, names_told};
 use machine::{Client, Found, Request, Sensor, Sheet, Strategy};
 
 // How far an output is written, and how many informs that were.
-#[derive(Drop)]
+#[derive(Clone, Copy)]
 pub struct Told {
     pub at: usize,
     pub count: usize,

@@ -13,7 +13,7 @@ use machine::{Choice, Client, Sensor, Sheet};
 use value::Limits;
 
 // The bytes that a text may have: name bytes, 0x21–0x7E, 0x20–0x7E, or those of a log entry, which may also be 9, 10 and 13.
-#[derive(Drop)]
+#[derive(Clone, Copy)]
 pub enum Charset {
     Name,
     Graphic,
@@ -463,7 +463,7 @@ fn held(count: u8) -> usize
 }
 
 // What one pass over the sensors of a sheet finds: whether they keep their rules, the type of each, and how many options it has.
-#[derive(Drop)]
+#[derive(Clone, Copy)]
 pub struct Sensors {
     pub ok: bool,
     pub kinds: [u8; machine::SENSORS],

@@ -26,14 +26,14 @@ const LONGEST_LINE: usize = 65536;
 const MOST_BYTES: usize = LONGEST_LINE / 2;
 
 // A reading that a line gives, or that its words are none.
-#[derive(Drop)]
+#[derive(Clone, Copy)]
 pub enum Given {
     A(Reading),
     Unread,
 }
 
 // What a line of a script asks, but for the length of the lent output and the bytes of texts, which stand in the line.
-#[derive(Drop)]
+#[derive(Clone, Copy)]
 pub enum Command {
     // an empty line or a comment
     Passed,
@@ -51,7 +51,7 @@ pub enum Command {
 }
 
 // What a line asked, and what was answered.
-#[derive(Drop)]
+#[derive(Clone, Copy)]
 pub struct Performed {
     pub command: Command,
     pub answer: Answer,

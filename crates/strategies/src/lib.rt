@@ -15,14 +15,14 @@ use machine::{Sensor, Sheet, Strategy};
 use value::Parameter;
 
 // A strategy with its parameters, or that one of them cannot be read.
-#[derive(Drop)]
+#[derive(Clone, Copy)]
 pub enum Made {
     Is(Strategy),
     Bad,
 }
 
 // What a request sets: the number of the row that declines it, 0 for none, and the strategy.
-#[derive(Drop)]
+#[derive(Clone, Copy)]
 pub struct Setting {
     pub number: u8,
     pub strategy: Strategy,

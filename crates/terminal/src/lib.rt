@@ -16,7 +16,7 @@ use numbers::Number;
 use value::Reading;
 
 // What an input line is: a tick, a sensor's reading, or a line for the server.
-#[derive(Drop)]
+#[derive(Clone, Copy)]
 pub enum Entry {
     Tick(u64),
     Reading(usize, Reading),

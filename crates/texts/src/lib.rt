@@ -9,7 +9,7 @@ ghost use Rattle.texts.specs.Table as tables;
 const BAR: u8 = b'|';
 
 // Classes of bytes: spaces and tabs, and all others; those of a message's name; digits; every byte but one.
-#[derive(Drop)]
+#[derive(Clone, Copy)]
 pub enum Class {
     Blank,
     Word,

@@ -34,7 +34,7 @@ const SIGN: u64 = 0x8000_0000_0000_0000;
 const IMPLICIT: u64 = 0x10_0000_0000_0000;
 
 // A number of 1024ths plus 2^30, or nothing that fits.
-#[derive(Drop)]
+#[derive(Clone, Copy)]
 pub enum Fit {
     At(u32),
     Out,
@@ -136,7 +136,7 @@ pub fn grid_word(a: u8, b: u8, c: u8, d: u8) -> Fit
 }
 
 // What a sensor can say.
-#[derive(Drop)]
+#[derive(Clone, Copy)]
 pub enum Reading {
     Integer(i32),
     Float(f64),
@@ -150,13 +150,13 @@ pub enum Reading {
 }
 
 // A kind, 0 unknown, 1 valid, 2 failure, 3 unreachable, 4 inactive, and a stored number.
-#[derive(Drop)]
+#[derive(Clone, Copy)]
 pub struct Sample {
     pub kind: u8,
     pub number: u64,
 }
 
-#[derive(Drop)]
+#[derive(Clone, Copy)]
 pub enum Sampled {
     As(Sample),
     Unfit,
@@ -269,7 +269,7 @@ pub fn sample_of(kind: u8, options: u8, reading: Reading) -> Sampled
 }
 
 // How many limits a sensor has, 0, 2 or 4, and the stored numbers of the limits.
-#[derive(Drop)]
+#[derive(Clone, Copy)]
 pub struct Limits {
     pub count: u8,
     pub nominal_min: u64,
@@ -344,7 +344,7 @@ pub fn put_arg_value(
 }
 
 // A parameter of a strategy: its number, or that the text is none.
-#[derive(Drop)]
+#[derive(Clone, Copy)]
 pub enum Parameter {
     Is(u64),
     Bad,
