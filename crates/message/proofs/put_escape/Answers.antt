@@ -36,4 +36,4 @@ returns-in-9 c = said c.put_pair-in-9.ensures (ap escape_byte (sym c.in-9.is))
 
 pub returns-in_default : goal.returns-in_default
 unfolding escape_byte
-returns-in_default c = let n = c.in_default in said c.put_byte.ensures (raw _ n.not-92 n.not-32 n.not-0 n.not-10 n.not-13 n.not-27 n.not-9)
+returns-in_default c = said c.put_byte.ensures (search raw)
