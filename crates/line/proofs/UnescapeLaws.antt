@@ -3,11 +3,8 @@ use Prim.Native.Nat.{ℕ, ◌+◌, ◌≤◌, ◌<◌}
 use mathlib.Core.Path.{◌≡◌, refl, sym, ap, ◌∙◌}
 use mathlib.Core.Bool.{true, false}
 use mathlib.Core.List.{List, [], ◌∷◌, ◌++◌, append-nil, append_assoc}
-use mathlib.Core.Logic.{⊎_elim}
 use native.Mathlib.Omega.{arith}
 use borrow.Author.Tests.{eq-eqb, ne_eqb}
-use types.Run.{OneOf}
-use denote.Enum.Declared.{tag_of}
 use lib.Dec.{eqb}
 use lib.ListN.{length, drop, get_or, drop_of_length-le}
 use Rattle.output.specs.Output.{Output, Wrote}
@@ -15,16 +12,15 @@ use Rattle.output.proofs.OutputLaws as O
 use Rattle.line.specs.declared.Meaning.{Meaning}
 use Rattle.line.specs.declared.Meaning.TheVariants.{Byte, Nothing, Unknown}
 use Rattle.line.specs.Line.{plain, known, meant, escape_of, valid, unescape}
-use Rattle.line.specs.contracts.Meaning.{the_type}
 use Rattle.texts.proofs.At.{at, at2}
 
 -- what the code's match on a meaning tells where it is no byte
-none : (m : Meaning) → OneOf (1 ∷ 2 ∷ []) (tag_of the_type m) → meant m ≡ []
+none : (m : Meaning) → ((x : ℕ) → m ≡ Byte x → ⊥) → meant m ≡ []
 none Nothing k = refl
 none Unknown k = refl
-none (Byte x) k = ⊎_elim (λ z. absurd (omega arith)) (λ z. absurd (omega arith)) k
+none (Byte x) k = absurd (k x refl)
 
-pub none_meant : (m e : Meaning) → m ≡ e → OneOf (1 ∷ 2 ∷ []) (tag_of the_type m) → meant e ≡ []
+pub none_meant : (m e : Meaning) → m ≡ e → ((x : ℕ) → m ≡ Byte x → ⊥) → meant e ≡ []
 none_meant m e q k = ap meant (sym q) ∙ none m k
 
 module _ (w : List ℕ) (i : ℕ) (h : i < length w) where
