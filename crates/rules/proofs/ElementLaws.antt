@@ -2,8 +2,8 @@
 use Prim.Native.Nat.{ℕ, zero, suc, ◌<◌}
 use native.Mathlib.Omega.{arith}
 use mathlib.Core.Path.{◌≡◌}
-use mathlib.Core.List.{List, [], ◌∷◌, map}
-use lib.ListN.{length, get_or, length-map, get_or-map}
+use mathlib.Core.List.{List, [], ◌∷◌}
+use lib.ListN.{length, get_or}
 use mir.Val.{Val}
 use base.Fml.{Fml}
 use denote.Array.{each, in_array}
@@ -27,9 +27,6 @@ module _ (D : Type 0) (own : D → List Val → Fml) where
   element_at (x ∷ xs) (u ∷ us) zero z h l = (u, h.0)
   element_at (x ∷ xs) (u ∷ us) (suc i) z h l = element_at xs us i z h.1 (omega arith)
 
-  element_of : {E : Type 0} (f : E → D) (xs : List E) (us : List Val) (i : ℕ) (z : E) → shadow (each D own (map f xs) us) → i < length xs → (u : Val) × shadow (own (f (get_or xs i z)) (u ∷ []))
-  element_of f xs us i z h l = rw (get_or-map f xs i z) at (element_at (map f xs) us i (f z) h (omega (arith, length-map xs f)))
-
 -- the texts of an array of options
 pub choices_long : (os : List Choice) (vs : List Val) → shadow (in_array Choice (declared.row choice-type).own_val 8 os vs) → (k : ℕ) → k < 8 → length (get_or os k no_choice).text ≡ 16
 choices_long os vs h k l =
@@ -42,13 +39,13 @@ pub options_long : (n : Sensor) (vs : List Val) → shadow ((declared.row sensor
 options_long n vs h k l =
     let f = h.1.1.1.1.1.1.1.1.1.1.1.0 in
     let e = options_many n vs h in
-    let g = element_of _ _ _ n.options f.0 k no_choice f.1.1 (omega arith) in
+    let g = element_at _ _ n.options f.0 k no_choice f.1.1 (omega arith) in
     search rules
 
 -- the names of a sheet's sensors
 pub names_long : (sheet : Sheet) (vs : List Val) → shadow ((declared.row sheet-type).own_val sheet vs) → (j : ℕ) → j < 32 → length (sensor_of sheet j).name ≡ 32
 names_long sheet vs h j l =
     let f = h.1.1.1.1.1.1.1.1.0 in
-    let e : length sheet.sensors ≡ 32 = simp length-map at f.1.0.1 in
-    let g = element_of _ _ _ sheet.sensors f.0 j no_sensor f.1.1 (omega arith) in
+    let e : length sheet.sensors ≡ 32 = f.1.0.1 in
+    let g = element_at _ _ sheet.sensors f.0 j no_sensor f.1.1 (omega arith) in
     search rules
