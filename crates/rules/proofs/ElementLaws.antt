@@ -39,7 +39,7 @@ pub options_long : (n : Sensor) (vs : List Val) → shadow ((declared.row sensor
 options_long n vs h k l =
     let f = h.1.1.1.1.1.1.1.1.1.1.1.0 in
     let e = options_many n vs h in
-    let g = element_at _ _ n.options f.0 k no_choice f.1.1 (omega arith) in
+    let g = element_at Choice (declared.row choice-type).own_val n.options f.0 k no_choice f.1.1 (omega arith) in
     search rules
 
 -- the names of a sheet's sensors
@@ -47,5 +47,5 @@ pub names_long : (sheet : Sheet) (vs : List Val) → shadow ((declared.row sheet
 names_long sheet vs h j l =
     let f = h.1.1.1.1.1.1.1.1.0 in
     let e : length sheet.sensors ≡ 32 = f.1.0.1 in
-    let g = element_at _ _ sheet.sensors f.0 j no_sensor f.1.1 (omega arith) in
+    let g = element_at Sensor (declared.row sensor-type).own_val sheet.sensors f.0 j no_sensor f.1.1 (omega arith) in
     search rules

@@ -1,0 +1,11 @@
+-- The version by the profile.
+use borrow.Author.Rules.{rules}
+use mathlib.Core.Path.{sym, ◌∙◌}
+use Rattle.message.proofs.DeliveryLaws.{kept}
+use Rattle.informs.proofs.deliver_protocol.Goals as goal
+
+pub returns-then-is_single : goal.returns-then-is_single
+returns-then-is_single c = rw (sym c.is_single.ensures ∙ c.if-is_single.true) c.deliver_two.ensures
+
+pub returns : goal.returns
+returns c = rw (sym c.is_single.ensures ∙ c.if-is_single.false) c.deliver_two-2.ensures

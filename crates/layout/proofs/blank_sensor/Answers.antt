@@ -1,0 +1,6 @@
+-- All zeros, with no limits and blank options.
+use borrow.Author.Rules.{rules}
+use Rattle.layout.proofs.blank_sensor.Goals as goal
+
+pub returns : goal.returns
+returns c = cc

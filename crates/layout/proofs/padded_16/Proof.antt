@@ -1,9 +1,0 @@
--- The text stands at the start, and zeros behind it.
-use borrow.Author.Rules.{rules}
-use native.Mathlib.Omega.{arith}
-use Rattle.layout.proofs.TakenLaws.{pads}
-use Rattle.layout.proofs.padded_16.Statement.{statement}
-use Rattle.layout.proofs.padded_16.Tie as tie
-
-pub padded-16-spec : {M : Type 1} → statement M
-padded-16-spec = tie.close (tie.spec (λ c. search rules) (λ c κs. search rules) (λ c. pads 16 c.before.put-bytes.ensures (omega arith)))

@@ -1,0 +1,23 @@
+-- The sensors read so far stand at the start of the array, and the rest of the count is read behind them.
+use borrow.Author.Rules.{rules}
+use native.Mathlib.Omega.{arith}
+use Prim.Native.Nat.{◌-◌}
+use lib.ListN.{drop}
+use borrow.Author.Tests.{not-true, not-false}
+use Rattle.machine.specs.State.{blank_sensor}
+use Rattle.machine.specs.Opening.{sensor_at}
+use Rattle.layout.proofs.ManyLaws.{Progress, begun, fault, more}
+use Rattle.layout.proofs.SheetLaws.{sensors_there}
+use Rattle.layout.proofs.sensors_at.Goals as goal
+
+pub loop-k-init : goal.loop-k-init
+loop-k-init c = begun (rw c.blank_sensor-sensors.ensures)
+
+pub returns-then-not-r : goal.returns-then-not-r
+returns-then-not-r c = rw (c.no_sheet.ensures, fault (c.loop-k.invariant) (omega arith) (rw (not-true c.sensor_at-r.result.taken c.if-not-r.true) at c.sensor_at-r.ensures))
+
+pub loop-k-preserved : goal.loop-k-preserved
+loop-k-preserved c = more c.loop-k.invariant (omega arith) (omega arith) (rw (not-false c.sensor_at-r.result.taken c.if-not-r.false) at c.sensor_at-r.ensures)
+
+pub returns : goal.returns
+returns c = search (sensors_there, rules)

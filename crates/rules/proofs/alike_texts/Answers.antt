@@ -1,0 +1,6 @@
+-- The tests are those of the definition.
+use borrow.Author.Rules.{rules}
+use Rattle.rules.proofs.alike_texts.Goals as goal
+
+pub returns : goal.returns
+returns c = rw c.same-same.ensures

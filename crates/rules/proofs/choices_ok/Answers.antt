@@ -1,0 +1,21 @@
+-- The invariant: what is found is the test of each place below k. After the loop k is 8.
+use Prim.Native.Nat.{◌≤◌, ◌-◌}
+use native.Mathlib.Numerals.{add-one}
+use native.Mathlib.Omega.{arith}
+use mathlib.Core.Path.{◌≡◌, refl}
+use lib.ListN.{get_or}
+use borrow.Author.Rules.{rules}
+use Rattle.machine.specs.Places.{all_below}
+use Rattle.machine.specs.Sheet.{no_choice, choice_ok}
+use Rattle.rules.proofs.choices_ok.Goals as goal
+
+pub loop-k-init : goal.loop-k-init
+unfolding all_below
+loop-k-init c = (omega arith, refl)
+
+pub loop-k-preserved : goal.loop-k-preserved
+unfolding all_below
+loop-k-preserved c = (omega arith, rw (add-one, c.loop-k.invariant.1, c.choice_ok-ok.ensures))
+
+pub returns : goal.returns
+returns c = let e : c.loop-k.k ≡ 8 = omega arith in rw (c.loop-k.invariant.1, e)

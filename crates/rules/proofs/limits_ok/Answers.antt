@@ -1,0 +1,8 @@
+-- The three ways are those of the definition.
+use borrow.Author.Rules.{rules}
+use Rattle.machine.specs.Sheet.{limits_ok}
+use Rattle.rules.proofs.limits_ok.Goals as goal
+
+pub returns : goal.returns
+unfolding limits_ok
+returns c = rw (c.limits_none-none.ensures, c.limits_two-two.ensures, c.limits_four-four.ensures, c.is_measured.ensures)

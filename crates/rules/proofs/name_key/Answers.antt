@@ -1,0 +1,8 @@
+-- By its halves.
+use borrow.Author.Rules.{rules}
+use Rattle.rules.specs.Keys.{name_key}
+use Rattle.rules.proofs.name_key.Goals as goal
+
+pub returns : goal.returns
+unfolding name_key
+returns c = cc

@@ -1,0 +1,28 @@
+-- The invariant: what is found is that no pair below q is alike. After the loop q is 1024. The lengths of the names are those of the array's elements.
+use Prim.Native.Nat.{◌≤◌, ◌-◌}
+use native.Mathlib.Numerals.{add-one}
+use native.Mathlib.Omega.{arith}
+use mathlib.Core.Path.{◌≡◌, refl, sym}
+use borrow.Author.Rules.{rules}
+use Rattle.machine.specs.Places.{all_below}
+use Rattle.rules.specs.Apart.{apart_at, names_alike, names_apart}
+use Rattle.rules.proofs.ElementLaws.{names_long}
+use Rattle.rules.proofs.names_compared.Goals as goal
+
+pub loop-q-init : goal.loop-q-init
+unfolding all_below
+loop-q-init c = (omega arith, refl)
+
+pub slice_bounds-alike_texts-end : goal.slice_bounds-alike_texts-end
+slice_bounds-alike_texts-end c = sym (names_long c.args.sheet _ c.well_formed.0 _ (omega arith))
+
+pub slice_bounds-alike_texts-end-in-loop-q : goal.slice_bounds-alike_texts-end-in-loop-q
+slice_bounds-alike_texts-end-in-loop-q c = sym (names_long c.args.sheet _ c.well_formed.0 _ (omega arith))
+
+pub loop-q-preserved : goal.loop-q-preserved
+unfolding all_below apart_at
+loop-q-preserved c = (omega arith, rw (add-one, c.loop-q.invariant.1, c.alike_texts-like.ensures))
+
+pub returns : goal.returns
+unfolding names_apart
+returns c = let e : c.loop-q.q ≡ 1024 = omega arith in rw (c.loop-q.invariant.1, e)

@@ -1,0 +1,16 @@
+-- The invariant: what is found is that no pair below q is alike. After the loop q is 1024. The lengths of the names are those of the array's elements.
+use Prim.Native.Nat.{◌≤◌, ◌-◌}
+use native.Mathlib.Numerals.{add-one}
+use native.Mathlib.Omega.{arith}
+use mathlib.Core.Path.{◌≡◌, refl, sym}
+use borrow.Author.Rules.{rules}
+use Rattle.machine.specs.Places.{all_below}
+use Rattle.rules.specs.Apart.{apart_at, names_alike, names_apart}
+use Rattle.rules.proofs.ElementLaws.{names_long}
+use Rattle.rules.proofs.names_compared.Given as goal
+
+abbrev pub invariant-loop-q : goal.invariant-loop-q
+invariant-loop-q l = (l.q ≤ 1024) × (l.ok ≡ all_below (apart_at 32 l.count (names_alike l.sheet)) l.q)
+
+abbrev pub decreases-loop-q : goal.decreases-loop-q
+decreases-loop-q l = 1024 - l.q
