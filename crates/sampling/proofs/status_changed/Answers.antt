@@ -1,0 +1,8 @@
+-- Two statuses are compared.
+use Rattle.machine.specs.Report.{status_changed}
+use borrow.Author.Rules.{rules}
+use Rattle.sampling.proofs.status_changed.Goals as goal
+
+pub returns : goal.returns
+unfolding status_changed
+returns c = cc

@@ -1,0 +1,56 @@
+-- The invariant: the places before p are passed, and p is a place of the visit or behind all of them. The measure is the places that are left.
+use Prim.Native.Nat.{◌<◌, ◌-◌}
+use native.Mathlib.Omega.{arith}
+use mathlib.Core.Path.{refl, sym, ◌∙◌}
+use mathlib.Core.Logic.{⊎_elim}
+use mathlib.Core.Bool.{true, false}
+use borrow.Author.Rules.{rules}
+use Rattle.output.specs.Output.{output}
+use Rattle.message.proofs.DeliveryLaws.{kept}
+use Rattle.machine.proofs.ArrayLaws.{subscriptions_many}
+use Rattle.sampling.specs.Visits.{moment, first_place}
+use Rattle.sampling.proofs.VisitLaws.{Come, first_come, next_come, next_behind, turn_asked, turn_not, turn_reports, turn_silent, visited}
+use Rattle.sampling.proofs.visit.Goals as goal
+
+pub loop-p-init : goal.loop-p-init
+unfolding first_place
+loop-p-init c = search (first_come, subscriptions_many, rules)
+
+pub loop-p-smaller : goal.loop-p-smaller
+loop-p-smaller c = let behind : c.loop-p.p < c.next_place-p.result = rw c.next_place-p.ensures (next_behind _ _ _) in
+    omega arith
+
+pub loop-p-preserved : goal.loop-p-preserved
+loop-p-preserved c = let loop = c.loop-p in
+    let test : loop.p < 256 = c.loop-p-test.true in
+    let all = subscriptions_many c.args.s _ c.well_formed.1.1.0 in
+    let reading = c.by_reading-reading in let can = c.can_report in
+    next_come all test loop.invariant c.next_place-p.ensures
+    (⊎_elim
+    (λ w.
+    let is = turn_asked all test loop.invariant reading.result can.result true reading.ensures w.0.taken (sym w.5.taken ∙ w.4.ensures) in
+    rw (w.11, w.12, w.13) (turn_reports all test loop.invariant is w.10.ensures w.7.ensures))
+    (⊎_elim
+    (λ w.
+    let is = turn_asked all test loop.invariant reading.result can.result false reading.ensures w.0.taken (sym w.5.left ∙ w.4.ensures) in
+    rw (w.6, w.7, w.8) (turn_silent all test loop.invariant is))
+    (λ w.
+    let is = turn_not all test loop.invariant reading.result can.result reading.ensures can.ensures w.0.left in
+    rw (w.1, w.2, w.3) (turn_silent all test loop.invariant is)))
+    c.if-there-can_report.branch)
+
+pub returns : goal.returns
+returns c = let all = (
+      refl,
+      visited
+          c.args.visiting
+          (moment c.args.s c.args.clock c.args.readings)
+          c.args.cause
+          (subscriptions_many c.args.s _ c.well_formed.1.1.0)
+          c.loop-p.invariant
+          c.loop-p-test.false,
+    ) in record {
+      number_value = all.0;
+      state_value = all.1;
+      sent = all.2;
+    }

@@ -1,0 +1,22 @@
+-- Whether one was found among the places so far. The measure is the places that are left.
+use Prim.Native.Nat.{◌-◌}
+use native.Mathlib.Omega.{arith}
+use mathlib.Core.Path.{ap, ◌∙◌}
+use mathlib.Core.Bool.{not}
+use lib.ListN.{length}
+use borrow.Author.Rules.{rules}
+use Rattle.value.specs.Reading.{is_measured}
+use Rattle.machine.specs.Sheet.{sensor_of}
+use Rattle.strategies.proofs.TypeLaws.{type_at}
+use Rattle.machine.proofs.FoundLaws.{Found, found_none, found_on, found_all}
+use Rattle.strategies.proofs.is_unmeasured.Goals as goal
+
+pub loop-k-init : goal.loop-k-init
+loop-k-init c = found_none _ _
+
+pub loop-k-preserved : goal.loop-k-preserved
+loop-k-preserved c = found_on c.loop-k.invariant 0 _ c.loop-k-test.true
+    (ap not (c.is_measured.ensures ∙ ap is_measured (c.type_if.ensures ∙ type_at c.args.sheet _ c.well_formed.0 _)))
+
+pub returns : goal.returns
+returns c = found_all c.loop-k.invariant (omega arith)

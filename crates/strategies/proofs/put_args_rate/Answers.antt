@@ -1,0 +1,8 @@
+-- One argument after the other.
+use borrow.Author.Rules.{rules}
+use Rattle.output.proofs.OutputLaws.{then}
+use Rattle.output.proofs.OutputLaws.{alone}
+use Rattle.strategies.proofs.put_args_rate.Goals as goal
+
+pub returns : goal.returns
+returns c = then c.put_arg_time-p.ensures (alone c.put_arg_time.ensures)
