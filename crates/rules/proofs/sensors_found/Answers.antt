@@ -4,7 +4,6 @@ use native.Mathlib.Numerals.{add-one}
 use native.Mathlib.Omega.{arith}
 use mathlib.Core.Path.{◌≡◌, refl, sym, ◌∙◌}
 use mathlib.Core.Bool.{◌&&◌}
-use mathlib.Core.Logic.{⊎_elim}
 use mathlib.Core.List.{List, ◌++◌}
 use lib.Dec.{leb}
 use lib.ListN.{drop, replicate}
@@ -20,6 +19,7 @@ use Rattle.rules.specs.Found.{sensors_found}
 use Rattle.rules.proofs.ElementLaws.{names_long}
 use Rattle.rules.proofs.DistinctLaws.{sensors_are, sensors_keyed}
 use Rattle.rules.proofs.sensors_found.Goals as goal
+use Rattle.rules.proofs.sensors_found.Goals.{then-not-keys_apart, else-not-keys_apart}
 
 -- the type, the number of options and the key at a place
 abbrev kind_at : Sheet → ℕ → ℕ
@@ -70,10 +70,12 @@ returns c = let sheet = c.args.sheet in let turn = c.loop-j in
     let e : turn.j ≡ 32 = omega arith in
     let each : turn.ok ≡ all_below (sensor_ok_at sheet) 32 = rw e at turn.invariant.1.0 in
     let long = names_long sheet _ c.well_formed.0 in
-    let ok : (leb sheet.count 32 && c.if-not-keys_apart.type-inv) ≡ sensors_ok sheet =
-    ⊎_elim
-    (λ w. rw (w.2, each, w.1.ensures) (sensors_are sheet long))
-    (λ w. rw (w.1, each) (sensors_keyed sheet long (rw (all_written (key_at sheet) e turn.invariant.1.1.1.1, c.held.ensures) at (sym c.keys_apart.ensures ∙ not-false c.keys_apart.result w.0.left))))
-    c.if-not-keys_apart.branch
+    let ok : (leb sheet.count 32 && c.if-not-keys_apart.ok) ≡ sensors_ok sheet =
+        elim c.if-not-keys_apart.branch [
+          then-not-keys_apart w ↦ rw (w.ok-is, each, w.names_compared-ok.ensures) (sensors_are sheet long)
+        | else-not-keys_apart w ↦
+            rw (w.ok-is, each)
+            (sensors_keyed sheet long (rw (all_written (key_at sheet) e turn.invariant.1.1.1.1, c.held.ensures) at (sym c.keys_apart.ensures ∙ w.if-not-keys_apart.false)))
+        ]
     in
     rw (ok, all_written (kind_at sheet) e turn.invariant.1.1.0, all_written (options_at sheet) e turn.invariant.1.1.1.0)

@@ -4,8 +4,8 @@ use Rattle.message.proofs.DeliveryLaws.{delivered, one, within}
 use native.Mathlib.Omega.{arith}
 use Rattle.sampling.proofs.deliver_value.Goals as goal
 
-pub overflow_add-result : goal.overflow_add-result
-overflow_add-result c = let h = within (returns c) in omega arith
-
 pub returns : goal.returns
 returns c = search (one, delivered, rules)
+
+pub overflow_add-result : goal.overflow_add-result
+overflow_add-result c = let h = within (returns c) in omega arith
