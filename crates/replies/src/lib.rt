@@ -236,7 +236,7 @@ fn first_request(profile: u8) -> usize
 
 // What it tells of all that a profile has, and how many they are.
 fn tell_requests(out: &mut [u8], client: u8, id: u64, profile: u8) -> Told
-    ensures* fact { λ r. ⌜ Sent (output out.old 0) (messages.all_to client (map (messages.help_inform id) (map (λ (r : Row). r.name) (shown_rows profile)))) (output out.new r.at) ⌝ }
+    ensures sent { Sent (output out.old 0) (messages.all_to client (map (messages.help_inform id) (map (λ (row : Row). row.name) (shown_rows profile)))) (output out.new result.at) }
     ensures count_value { result.count ≡ length (shown_rows profile) }
 {
     let most = texts::word_count(&REQUESTS);

@@ -11,7 +11,7 @@ use Rattle.output.specs.Text.{run, behind_run}
 use Rattle.output.specs.Read.{other, past}
 use Rattle.output.proofs.OutputLaws as O
 use Rattle.output.proofs.RunLaws.{run_le, run_drop}
-use Rattle.hex.specs.Hex.{bytes_of}
+use Rattle.in_hex.specs.Hex.{bytes_of}
 use Rattle.input.specs.Words.{behind_spaces, word_at}
 use Rattle.numbers.proofs.NumberLaws.{written}
 use Rattle.script.specs.Replay.{bytes_at}

@@ -14,7 +14,7 @@ use Rattle.texts.specs.Table.{words_of, place_in, place_of}
 use Rattle.numbers.specs.Number.{number_of}
 use Rattle.value.specs.declared.Reading.TheVariants.{Boolean, Option as Choice, Timestamp, Failure, Unreachable, Inactive}
 use Rattle.input.specs.Words.{integer_of}
-use Rattle.hex.specs.Hex.{bits_of}
+use Rattle.in_hex.specs.Hex.{bits_of}
 use Rattle.script.specs.declared.Given.{Given}
 use Rattle.script.specs.declared.Given.TheVariants.{Unread}
 use Rattle.script.specs.Script.{at_most, integer_given, float_of, reading_of, without_value, without_number, given}

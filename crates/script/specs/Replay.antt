@@ -12,7 +12,7 @@ use Rattle.input.specs.Words.{word_at}
 use Rattle.script.specs.declared.Command.{Command}
 use Rattle.script.specs.declared.Command.TheVariants as commands
 use Rattle.script.specs.declared.Performed.{Performed}
-use Rattle.hex.specs.Hex.{bytes_of, hex_text}
+use Rattle.in_hex.specs.Hex.{bytes_of, hex_text}
 use Rattle.script.specs.Script.{command_of, lent_by}
 
 -- What a command asks of the device.

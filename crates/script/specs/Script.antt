@@ -20,9 +20,9 @@ use Rattle.input.specs.declared.Integer.{Integer as Signed}
 use Rattle.input.specs.declared.Integer.TheVariants as integers
 use Rattle.numbers.specs.Number.{number_of}
 use Rattle.input.specs.Words.{word_at, has_words, integer_of}
-use Rattle.hex.specs.declared.Bits.{Bits}
-use Rattle.hex.specs.declared.Bits.TheVariants as bits
-use Rattle.hex.specs.Hex.{is_bytes, bits_of}
+use Rattle.in_hex.specs.declared.Bits.{Bits}
+use Rattle.in_hex.specs.declared.Bits.TheVariants as bits
+use Rattle.in_hex.specs.Hex.{is_bytes, bits_of}
 use Rattle.script.specs.declared.Given.{Given}
 use Rattle.script.specs.declared.Given.TheVariants.{A, Unread}
 use Rattle.script.specs.declared.Command.{Command}

@@ -8,13 +8,13 @@ ghost use Rattle.value.specs.declared.Reading.TheVariants as readings;
 ghost use Rattle.machine.specs.Declined as calls;
 ghost use Rattle.machine.specs.Opening.{start_of, opened};
 ghost use Rattle.machine.specs.Machine.{step, answer_of, output_of};
-ghost use Rattle.hex.specs.Hex.{bits_of};
+ghost use Rattle.in_hex.specs.Hex.{bits_of};
 ghost use Rattle.numbers.specs.Number.{number_of};
 ghost use Rattle.input.specs.Words.{word_at, integer_of};
 ghost use Rattle.script.specs.Script as scripts;
 ghost use Rattle.script.specs.Replay as replays;
 
-use hex::Bits;
+use in_hex::Bits;
 use input::Integer;
 use machine::{Answer, State};
 use numbers::Number;
@@ -92,7 +92,7 @@ fn double_of(bits: u64) -> f64
 fn float_of(t: &[u8]) -> Given
     ensures { result ≡ scripts.float_of (bits_of t.now) }
 {
-    let Bits::Are(bits) = hex::read_bits(t) else {
+    let Bits::Are(bits) = in_hex::read_bits(t) else {
         return Given::Unread;
     };
     Given::A(Reading::Float(double_of(bits)))
@@ -177,7 +177,7 @@ fn reading_of(kind: &[u8], t: &[u8]) -> Given
 fn has_bytes(line: &[u8], k: usize) -> bool
     ensures { result ≡ scripts.has_bytes k line.now }
 {
-    hex::is_bytes(input::word(line, k))
+    in_hex::is_bytes(input::word(line, k))
 }
 
 // Whether a line opens a sheet, with a profile or without.
@@ -311,7 +311,7 @@ fn open_sheet(line: &[u8], profile: u8) -> Answer
     ensures { result ≡ replays.quiet (opened (start_of profile (replays.bytes_at 1 line.now))).number (opened (start_of profile (replays.bytes_at 1 line.now))).state }
 {
     let mut sheet = [0u8; MOST_BYTES];
-    let n = hex::put_bytes_of(&mut sheet, 0, input::word(line, 1));
+    let n = in_hex::put_bytes_of(&mut sheet, 0, input::word(line, 1));
     let opened = device::open(profile, &sheet[..n]);
     declining::silent(opened.number, opened.state)
 }
@@ -322,7 +322,7 @@ fn connect(state: State, line: &[u8], client: usize, out: &mut [u8]) -> Answer
     ensures out_after { out.new ≡ output_of (step state (calls.call_of (calls.Connect client (replays.bytes_at 3 line.now)) out.old)) out.old }
 {
     let mut address = [0u8; MOST_BYTES];
-    let n = hex::put_bytes_of(&mut address, 0, input::word(line, 3));
+    let n = in_hex::put_bytes_of(&mut address, 0, input::word(line, 3));
     device::connect(state, client, &address[..n], out)
 }
 
@@ -332,9 +332,9 @@ fn log(state: State, line: &[u8], level: u8, out: &mut [u8]) -> Answer
     ensures out_after { out.new ≡ output_of (step state (calls.call_of (calls.Log level (replays.bytes_at 3 line.now) (replays.bytes_at 4 line.now)) out.old)) out.old }
 {
     let mut logger = [0u8; MOST_BYTES];
-    let n = hex::put_bytes_of(&mut logger, 0, input::word(line, 3));
+    let n = in_hex::put_bytes_of(&mut logger, 0, input::word(line, 3));
     let mut message = [0u8; MOST_BYTES];
-    let m = hex::put_bytes_of(&mut message, 0, input::word(line, 4));
+    let m = in_hex::put_bytes_of(&mut message, 0, input::word(line, 4));
     device::log(state, level, &logger[..n], &message[..m], out)
 }
 
@@ -344,7 +344,7 @@ fn client_line(state: State, line: &[u8], client: usize, out: &mut [u8]) -> Answ
     ensures out_after { out.new ≡ output_of (step state (calls.call_of (calls.Line client (replays.bytes_at 3 line.now)) out.old)) out.old }
 {
     let mut bytes = [0u8; MOST_BYTES];
-    let n = hex::put_bytes_of(&mut bytes, 0, input::word(line, 3));
+    let n = in_hex::put_bytes_of(&mut bytes, 0, input::word(line, 3));
     device::line(state, client, &bytes[..n], out)
 }
 
@@ -395,7 +395,7 @@ fn put_answer(into: &mut [u8], at: usize, number: u8, bytes: &[u8]) -> usize
 {
     let p = output::put_decimal(into, at, number as u64);
     let p = output::put_byte(into, p, b' ');
-    let p = hex::put_text(into, p, bytes);
+    let p = in_hex::put_text(into, p, bytes);
     output::put_byte(into, p, 10)
 }
 

@@ -9,8 +9,7 @@ use Rattle.input.proofs.+word.Goals as goal
 pub slice_bounds-result-end : goal.slice_bounds-result-end
 slice_bounds-result-end t c =
     let s = c.args.line.now in
-    let h = before_within 32 s c.len_before-n.result c.len_before-n.ensures in
-    omega (arith, h)
+    sym (length-take-le c.len_before-n.result s (before_within 32 s c.len_before-n.result c.len_before-n.ensures))
 
 pub returns-then-k-eq0 : goal.returns-then-k-eq0
 returns-then-k-eq0 t c =

@@ -1,7 +1,7 @@
 -- The callees' contracts.
 use borrow.Author.Rules.{rules}
 use mathlib.Core.Path.{ap, ◌∙◌}
-use Rattle.hex.specs.Hex.{is_bytes}
+use Rattle.in_hex.specs.Hex.{is_bytes}
 use Rattle.script.proofs.has_bytes.Statement.{statement}
 use Rattle.script.proofs.has_bytes.Tie as tie
 

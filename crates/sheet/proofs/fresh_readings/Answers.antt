@@ -1,0 +1,35 @@
+-- The invariant: the readings passed are those of a fresh device, the others are none. The measure is the places that are left.
+use Prim.Native.Nat.{ℕ, ◌≤◌, ◌-◌}
+use mathlib.Core.Path.{◌≡◌, refl}
+use mathlib.Core.List.{◌++◌}
+use native.Mathlib.Omega.{arith}
+use borrow.Author.Rules.{rules}
+use lib.Dec.{ltb}
+use lib.ListN.{drop, replicate}
+use Rattle.machine.specs.declared.Sheet.{Sheet}
+use Rattle.machine.specs.declared.Stored.{Stored}
+use Rattle.machine.specs.Places.{tabulate}
+use Rattle.machine.specs.Sheet.{sensor_of}
+use Rattle.machine.specs.State.{no_stored, fresh_stored, fresh_readings}
+use Rattle.machine.proofs.StoreLaws.{filled_one, filled_all}
+use Rattle.sheet.proofs.fresh_readings.Goals as goal
+
+-- the reading at a place of a fresh device
+abbrev fresh_at : Sheet → ℕ → Stored
+fresh_at sheet j = fresh_stored (ltb j sheet.count) (sensor_of sheet j).kind
+
+pub loop-j-init : goal.loop-j-init
+unfolding tabulate
+loop-j-init c = (omega arith, rw c.no_stored-readings.ensures)
+
+pub loop-j-preserved : goal.loop-j-preserved
+loop-j-preserved c = (
+      omega arith,
+      rw (c.loop-j.invariant.1, c.fresh_stored.ensures)
+          (filled_one (fresh_at c.args.sheet) (replicate 32 no_stored) c.loop-j.j (omega arith)),
+    )
+
+pub returns : goal.returns
+unfolding fresh_readings
+returns c = let e : c.loop-j.j ≡ 32 = omega arith in
+    rw (c.loop-j.invariant.1, e) (filled_all (fresh_at c.args.sheet) (replicate 32 no_stored) 32 refl)

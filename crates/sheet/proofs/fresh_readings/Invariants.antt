@@ -1,0 +1,25 @@
+-- The invariant: the readings passed are those of a fresh device, the others are none. The measure is the places that are left.
+use Prim.Native.Nat.{ℕ, ◌≤◌, ◌-◌}
+use mathlib.Core.Path.{◌≡◌, refl}
+use mathlib.Core.List.{◌++◌}
+use native.Mathlib.Omega.{arith}
+use borrow.Author.Rules.{rules}
+use lib.Dec.{ltb}
+use lib.ListN.{drop, replicate}
+use Rattle.machine.specs.declared.Sheet.{Sheet}
+use Rattle.machine.specs.declared.Stored.{Stored}
+use Rattle.machine.specs.Places.{tabulate}
+use Rattle.machine.specs.Sheet.{sensor_of}
+use Rattle.machine.specs.State.{no_stored, fresh_stored, fresh_readings}
+use Rattle.machine.proofs.StoreLaws.{filled_one, filled_all}
+use Rattle.sheet.proofs.fresh_readings.Given as goal
+
+-- the reading at a place of a fresh device
+abbrev fresh_at : Sheet → ℕ → Stored
+fresh_at sheet j = fresh_stored (ltb j sheet.count) (sensor_of sheet j).kind
+
+abbrev pub invariant-loop-j : goal.invariant-loop-j
+invariant-loop-j l = (l.j ≤ 32) × (l.readings ≡ tabulate (fresh_at l.sheet) l.j ++ drop l.j (replicate 32 no_stored))
+
+abbrev pub decreases-loop-j : goal.decreases-loop-j
+decreases-loop-j l = 32 - l.j

@@ -1,0 +1,6 @@
+-- The blank state with the number.
+use borrow.Author.Rules.{rules}
+use Rattle.sheet.proofs.not_opened.Goals as goal
+
+pub returns : goal.returns
+returns c = rw c.blank_state.ensures

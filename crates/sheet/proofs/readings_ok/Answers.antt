@@ -1,0 +1,22 @@
+-- The invariant: the readings passed fit. The measure is the places that are left.
+use Prim.Native.Nat.{◌≤◌, ◌-◌}
+use mathlib.Core.Bool.{true}
+use mathlib.Core.Path.{◌≡◌, refl}
+use native.Mathlib.Numerals.{add-one}
+use native.Mathlib.Omega.{arith}
+use borrow.Author.Rules.{rules}
+use Rattle.machine.specs.Places.{all_below}
+use Rattle.sheet.specs.Fits.{stored_fits}
+use Rattle.sheet.proofs.readings_ok.Goals as goal
+
+pub loop-j-init : goal.loop-j-init
+unfolding all_below
+loop-j-init c = (omega arith, refl)
+
+pub loop-j-preserved : goal.loop-j-preserved
+unfolding all_below stored_fits
+loop-j-preserved c = (omega arith, rw (add-one, c.loop-j.invariant.1, c.stored_ok-ok.ensures))
+
+pub returns : goal.returns
+unfolding stored_fits
+returns c = let e : c.loop-j.j ≡ 32 = omega arith in rw (c.loop-j.invariant.1, e)

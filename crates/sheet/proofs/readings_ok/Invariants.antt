@@ -1,0 +1,16 @@
+-- The invariant: the readings passed fit. The measure is the places that are left.
+use Prim.Native.Nat.{◌≤◌, ◌-◌}
+use mathlib.Core.Bool.{true}
+use mathlib.Core.Path.{◌≡◌, refl}
+use native.Mathlib.Numerals.{add-one}
+use native.Mathlib.Omega.{arith}
+use borrow.Author.Rules.{rules}
+use Rattle.machine.specs.Places.{all_below}
+use Rattle.sheet.specs.Fits.{stored_fits}
+use Rattle.sheet.proofs.readings_ok.Given as goal
+
+abbrev pub invariant-loop-j : goal.invariant-loop-j
+invariant-loop-j l = (l.j ≤ 32) × (l.ok ≡ all_below (stored_fits l.count l.clock (record { l.ok = true; l.kinds = l.kinds; l.options = l.options }) l.stored) l.j)
+
+abbrev pub decreases-loop-j : goal.decreases-loop-j
+decreases-loop-j l = 32 - l.j
