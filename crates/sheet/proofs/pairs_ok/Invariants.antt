@@ -10,7 +10,7 @@ use Rattle.sheet.specs.Fits.{pair_fits}
 use Rattle.sheet.proofs.pairs_ok.Given as goal
 
 abbrev pub invariant-loop-p : goal.invariant-loop-p
-invariant-loop-p l = (l.p ≤ 256) × (l.ok ≡ all_below (pair_fits l.count l.clock (record { l.ok = true; l.kinds = l.kinds; l.options = l.options }) l.clients l.pairs) l.p)
+invariant-loop-p l = (l.p ≤ 256) × (l.ok ≡ all_below (pair_fits l.count l.clock (record { ok = true; kinds = l.kinds; options = l.options }) l.clients l.pairs) l.p)
 
 abbrev pub decreases-loop-p : goal.decreases-loop-p
 decreases-loop-p l = 256 - l.p

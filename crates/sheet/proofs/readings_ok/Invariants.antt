@@ -10,7 +10,7 @@ use Rattle.sheet.specs.Fits.{stored_fits}
 use Rattle.sheet.proofs.readings_ok.Given as goal
 
 abbrev pub invariant-loop-j : goal.invariant-loop-j
-invariant-loop-j l = (l.j ≤ 32) × (l.ok ≡ all_below (stored_fits l.count l.clock (record { l.ok = true; l.kinds = l.kinds; l.options = l.options }) l.stored) l.j)
+invariant-loop-j l = (l.j ≤ 32) × (l.ok ≡ all_below (stored_fits l.count l.clock (record { ok = true; kinds = l.kinds; options = l.options }) l.stored) l.j)
 
 abbrev pub decreases-loop-j : goal.decreases-loop-j
 decreases-loop-j l = 32 - l.j

@@ -1,0 +1,18 @@
+-- What is found so far, and the test of the rest, is the test of the whole.
+use borrow.Author.Rules.{rules}
+use native.Mathlib.Omega.{arith}
+use Prim.Native.Nat.{◌+◌, ◌-◌, ◌≤◌}
+use mathlib.Core.Path.{◌≡◌}
+use mathlib.Core.Bool.{◌&&◌}
+use lib.ListN.{length, drop, drop_of_length-le}
+use Rattle.output.specs.Text.{all}
+use Rattle.texts.proofs.At.{at}
+use Rattle.texts.proofs.PassLaws.{found_on, found_end}
+use Rattle.in_hex.specs.Hex.{is_hex}
+use Rattle.in_hex.proofs.all_hex.Given as goal
+
+abbrev pub invariant-loop-i : goal.invariant-loop-i
+invariant-loop-i l = (l.i ≤ length l.t) × ((l.ok && all is_hex (drop l.i l.t)) ≡ all is_hex l.t)
+
+abbrev pub decreases-loop-i : goal.decreases-loop-i
+decreases-loop-i l = length l.t - l.i

@@ -1,0 +1,8 @@
+-- Both callees' contracts.
+use borrow.Author.Rules.{rules}
+use Rattle.in_hex.specs.Hex.{is_bytes}
+use Rattle.in_hex.proofs.is_bytes.Goals as goal
+
+pub returns : goal.returns
+unfolding is_bytes
+returns c = cc

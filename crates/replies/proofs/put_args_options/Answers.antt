@@ -1,0 +1,24 @@
+-- The invariant: the options passed are written. The measure is the options that are left.
+use Prim.Native.Nat.{◌-◌, ◌≤◌}
+use native.Mathlib.Omega.{arith}
+use mathlib.Core.Path.{◌≡◌}
+use mathlib.Core.List.{[]}
+use borrow.Author.Rules.{rules}
+use Rattle.output.specs.Output.{output, Wrote}
+use Rattle.output.proofs.OutputLaws.{same}
+use Rattle.message.specs.Message.{args_text}
+use Rattle.machine.specs.Places.{tabulate}
+use Rattle.machine.specs.Sheet.{option_of}
+use Rattle.replies.proofs.LineLaws.{next_arg}
+use Rattle.replies.proofs.put_args_options.Goals as goal
+
+pub loop-k-init : goal.loop-k-init
+unfolding tabulate
+loop-k-init c = search rules
+
+pub loop-k-preserved : goal.loop-k-preserved
+loop-k-preserved c = (omega arith, next_arg (option_of c.args.sensor) _ c.loop-k.invariant.1 (rw c.option_at-option.ensures at c.put_arg_prefix-p.ensures))
+
+pub returns : goal.returns
+returns c = let end : c.loop-k.k ≡ c.args.sensor.option_count = omega (arith, c.loop-k.invariant.0) in
+    rw end at c.loop-k.invariant.1

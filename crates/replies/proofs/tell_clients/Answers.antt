@@ -1,0 +1,23 @@
+-- The invariant: the clients passed are told of. The measure is the clients that are left.
+use Prim.Native.Nat.{◌-◌}
+use native.Mathlib.Omega.{arith}
+use borrow.Author.Rules.{rules}
+use Rattle.output.specs.Output.{output}
+use Rattle.message.proofs.DeliveryLaws.{kept}
+use Rattle.replies.proofs.ToldLaws.{Telling, telling, telling_on, few, told}
+use Rattle.replies.proofs.tell_clients.Goals as goal
+
+pub loop-c-init : goal.loop-c-init
+loop-c-init c = telling _ _ _ _
+
+pub tell_client-told-requires : goal.tell_client-told-requires
+tell_client-told-requires c = let h = few c.loop-c.invariant in search rules
+
+pub loop-c-preserved : goal.loop-c-preserved
+loop-c-preserved c = search (telling_on, rules)
+
+pub returns : goal.returns
+returns c = let all = told c.loop-c.invariant (omega arith) in record {
+      sent = all.0;
+      count_value = all.1;
+    }

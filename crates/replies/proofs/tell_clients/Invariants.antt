@@ -1,0 +1,14 @@
+-- The invariant: the clients passed are told of. The measure is the clients that are left.
+use Prim.Native.Nat.{◌-◌}
+use native.Mathlib.Omega.{arith}
+use borrow.Author.Rules.{rules}
+use Rattle.output.specs.Output.{output}
+use Rattle.message.proofs.DeliveryLaws.{kept}
+use Rattle.replies.proofs.ToldLaws.{Telling, telling, telling_on, few, told}
+use Rattle.replies.proofs.tell_clients.Given as goal
+
+abbrev pub invariant-loop-c : goal.invariant-loop-c
+invariant-loop-c l = Telling l.client l.id l.clients (output l.initial.out 0) l.c (output l.out l.told.at) l.told.count
+
+abbrev pub decreases-loop-c : goal.decreases-loop-c
+decreases-loop-c l = 8 - l.c
