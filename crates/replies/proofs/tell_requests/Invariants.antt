@@ -9,7 +9,7 @@ use Rattle.replies.proofs.RequestTable.{Helping, helping, helping_on, helped}
 use Rattle.replies.proofs.tell_requests.Given as goal
 
 abbrev pub invariant-loop-k : goal.invariant-loop-k
-invariant-loop-k l = Helping l.client l.id l.most l.first (output l.initial.out 0) k (output l.at l.k)
+invariant-loop-k l = Helping l.client l.id l.most l.first (output l.initial.out 0) l.k (output l.out l.at)
 
 abbrev pub decreases-loop-k : goal.decreases-loop-k
-decreases-loop-k l = l.most - k
+decreases-loop-k l = l.most - l.k
