@@ -1,0 +1,8 @@
+-- The connections end, with the level kept.
+use borrow.Author.Rules.{rules}
+use Rattle.machine.specs.Requests.{answer}
+use Rattle.request.proofs.halt.Goals as goal
+
+pub returns : goal.returns
+unfolding answer
+returns c = c.end_all.ensures

@@ -1,0 +1,32 @@
+-- No row declines the list, so it is that of the places asked for; each is told of, and the reply counts them.
+use borrow.Author.Rules.{rules}
+use Rattle.machine.specs.Sheet.{sensor_of}
+use Rattle.machine.specs.Messages.{sensor_inform}
+use Rattle.machine.specs.Requests.{answer}
+use Rattle.machine.specs.Declined.{arguments_declined}
+use Rattle.request.specs.Reading.{message_of}
+use Rattle.request.proofs.TellLaws.{Asks, few_sensors, asks, list_long, tells_asked}
+use Rattle.request.proofs.sensor_list.Goals as goal
+
+pub sensors_told-list-requires : goal.sensors_told-list-requires
+sensors_told-list-requires c = (c.requires.heard.read, few_sensors c.args.state c.requires.heard.in_range_lem)
+
+pub slice_bounds-places-end : goal.slice_bounds-places-end
+unfolding arguments_declined
+slice_bounds-places-end c = let asked : Asks c.args.state.sheet (message_of c.args.line.now) c.sensors_told-list.result = asks c.args.state (message_of c.args.line.now) c.requires.heard.in_range_lem c.requires.fits c.sensors_told-list.ensures in
+    asked.inside
+
+pub slice_bounds-tell_sensors-end : goal.slice_bounds-tell_sensors-end
+unfolding arguments_declined
+slice_bounds-tell_sensors-end c = let asked : Asks c.args.state.sheet (message_of c.args.line.now) c.sensors_told-list.result = asks c.args.state (message_of c.args.line.now) c.requires.heard.in_range_lem c.requires.fits c.sensors_told-list.ensures in
+    list_long asked
+
+pub tell_sensors-p-requires : goal.tell_sensors-p-requires
+unfolding arguments_declined
+tell_sensors-p-requires c = let asked : Asks c.args.state.sheet (message_of c.args.line.now) c.sensors_told-list.result = asks c.args.state (message_of c.args.line.now) c.requires.heard.in_range_lem c.requires.fits c.sensors_told-list.ensures in
+    asked.below
+
+pub returns : goal.returns
+unfolding answer arguments_declined
+returns c = let asked : Asks c.args.state.sheet (message_of c.args.line.now) c.sensors_told-list.result = asks c.args.state (message_of c.args.line.now) c.requires.heard.in_range_lem c.requires.fits c.sensors_told-list.ensures in
+    tells_asked c.args.line.now c.args.head c.requires.heard.read c.name-name.ensures c.args.state c.args.client (λ id j. sensor_inform id (sensor_of c.args.state.sheet j)) asked c.tell_sensors-p.ensures c.deliver_count-written.ensures c.answered.ensures

@@ -1,0 +1,20 @@
+-- The invariant: the places passed are told of. The measure is the places that are left.
+use Prim.Native.Nat.{◌<◌, ◌-◌}
+use native.Mathlib.Omega.{arith}
+use mathlib.Core.Path.{sym}
+use mathlib.Core.List.{map-map}
+use lib.ListN.{length, get_or}
+use borrow.Author.Rules.{rules}
+use Rattle.output.specs.Output.{output}
+use Rattle.message.specs.Delivery.{to}
+use Rattle.message.proofs.DeliveryLaws.{as_sent, kept}
+use Rattle.machine.specs.Sheet.{sensor_of}
+use Rattle.machine.specs.Messages.{sensor_inform}
+use Rattle.request.proofs.PassLaws.{Passed, each_at, passed_none, passed_on, passed_all}
+use Rattle.request.proofs.tell_sensors.Given as goal
+
+abbrev pub invariant-loop-k : goal.invariant-loop-k
+invariant-loop-k l = Passed (λ j. to l.client (sensor_inform l.id (sensor_of l.sheet j))) l.places (output l.initial.out 0) l.k (output l.out l.at)
+
+abbrev pub decreases-loop-k : goal.decreases-loop-k
+decreases-loop-k l = length l.places - l.k

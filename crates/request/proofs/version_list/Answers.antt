@@ -1,0 +1,12 @@
+-- The reply of crate replies, under the name and id of the line; the state is kept.
+use mathlib.Core.Path.{refl}
+use mathlib.Core.List.{[], ◌∷◌, map}
+use borrow.Author.Rules.{rules}
+use Rattle.machine.specs.Messages.{protocol_args, device_args, version_inform}
+use Rattle.machine.specs.Requests.{answer}
+use Rattle.request.proofs.TellLaws.{tells}
+use Rattle.request.proofs.version_list.Goals as goal
+
+pub returns : goal.returns
+unfolding answer
+returns c = tells c.args.line.now c.args.head c.requires c.name-name.ensures c.args.state c.args.client (λ id. map (version_inform id) (protocol_args c.args.state.sheet.profile ∷ device_args c.args.state.sheet ∷ [])) c.version_list-written.ensures refl c.answered.ensures

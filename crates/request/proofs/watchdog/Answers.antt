@@ -1,0 +1,11 @@
+-- The reply, under the name and id of the line; the state is kept.
+use mathlib.Core.List.{[], ◌∷◌}
+use borrow.Author.Rules.{rules}
+use Rattle.output.specs.Text.{text}
+use Rattle.machine.specs.Requests.{answer}
+use Rattle.request.proofs.TellLaws.{replies}
+use Rattle.request.proofs.watchdog.Goals as goal
+
+pub returns : goal.returns
+unfolding answer
+returns c = replies c.args.line.now c.args.head c.requires c.name-name.ensures c.args.state c.args.client (text "ok" ∷ []) c.deliver_one-written.ensures c.answered.ensures
