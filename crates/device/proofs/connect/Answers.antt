@@ -34,7 +34,9 @@ returns c = let a = c.args in
     let n = c.rows-number.result in
     let refused = refused_by a.state.sheet.profile c.is_connected.ensures c.is_single.ensures in
     let row = c.client_rows-own.ensures ∙ client_same a.state.sheet.profile a.client refused c.address_row.ensures in
-    rw c.with_client.ensures
-    (one_exit a.state asked a.out.now (declined_by a.state asked a.out.now c.in_range.ensures row c.rows-number.ensures) refl refl
-    (rw c.newcomer.ensures (chosen (with_client a.state a.client) (eqb n 0) (client_at a.address.now) blank_client a.state))
-    c.greet-written.ensures)
+    let all =
+        one_exit a.state asked a.out.now (declined_by a.state asked a.out.now c.in_range.ensures row c.rows-number.ensures) refl refl
+        (rw c.newcomer.ensures (chosen (with_client a.state a.client) (eqb n 0) (client_at a.address.now) blank_client a.state))
+        c.greet-written.ensures
+    in
+    rw c.with_client.ensures (record { value = all.0; out_after = all.1 })

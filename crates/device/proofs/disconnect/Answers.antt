@@ -21,6 +21,8 @@ unfolding action_declined refusal perform
 returns c = let a = c.args in
     let asked = Disconnect a.client in
     let row = c.client_rows-own.ensures ∙ client_same a.state.sheet.profile a.client (ap not c.is_connected-refused.ensures) refl in
-    rw c.with_client.ensures
-    (one_exit a.state asked a.out.now (declined_by a.state asked a.out.now c.in_range.ensures row c.rows-number.ensures) refl refl
-    (rw c.blank_client.ensures) (rw cond_same none_sent))
+    let all =
+        one_exit a.state asked a.out.now (declined_by a.state asked a.out.now c.in_range.ensures row c.rows-number.ensures) refl refl
+        (rw c.blank_client.ensures) (rw cond_same none_sent)
+    in
+    rw c.with_client.ensures (record { value = all.0; out_after = all.1 })

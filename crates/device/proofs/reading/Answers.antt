@@ -18,7 +18,7 @@ returns c = let a = c.args in
     (reading_number a.state a.sensor a.reading a.time a.out.now good listed sampled rows ahead number) refl
     (reading_made a.state a.sensor a.reading a.time a.out.now good listed sampled newer stored c.time_row.result rows number (readings_many a.state _ c.well_formed.0))
     (reading_left a.state a.sensor a.reading a.time a.out.now good listed sampled newer stored)
-    visit.ensures.0 visit.ensures.1.0 visit.ensures.1.1 in record {
+    visit.ensures.number_value visit.ensures.state_value visit.ensures.sent in record {
       value = all.0;
       out_after = all.1;
     }

@@ -15,7 +15,7 @@ unfolding tick_fits action_declined refusal perform
 returns c = let a = c.args in
     let clock = c.clock_after-clock.ensures in let visit = c.visit in let all = visited a.state (Tick a.ms) a.out.now (eqb c.rows-number.result 0) Ticked c.clock_after-clock.result a.state.readings
     (declined_by a.state (Tick a.ms) a.out.now c.in_range.ensures c.tick_row-own.ensures c.rows-number.ensures) refl
-    (λ z. rw (clock, z)) (λ z. rw (clock, ne_eqb _ _ z)) visit.ensures.0 visit.ensures.1.0 visit.ensures.1.1 in record {
+    (λ z. rw (clock, z)) (λ z. rw (clock, ne_eqb _ _ z)) visit.ensures.number_value visit.ensures.state_value visit.ensures.sent in record {
       value = all.0;
       out_after = all.1;
     }
