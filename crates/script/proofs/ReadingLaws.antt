@@ -36,17 +36,17 @@ profile_within line x e = go (has_words (text "open") 1 line) e
     go true q = let z : 0 ≡ x = cc in omega arith
     go false q = at_most_within 255 (number_at 2 line) x q
 
-is_nan : (x : Float) → is_nan x ≡ true → nan ≡ x
+is_nan_lem : (x : Float) → is_nan x ≡ true → nan ≡ x
 unfolding is_nan
-is_nan nan h = refl
-is_nan (inf s) h = absurd (true≢false (sym h))
-is_nan (fin s m e) h = absurd (true≢false (sym h))
+is_nan_lem nan h = refl
+is_nan_lem (inf s) h = absurd (true≢false (sym h))
+is_nan_lem (fin s m e) h = absurd (true≢false (sym h))
 
 module _ (b : ℕ) where
   -- bits above those of an infinity are a NaN's
   pub above : 0x7ff0_0000_0000_0000 < b % 2 ^ 63 → div binary64 (of_bits binary64 0) (of_bits binary64 0) ≡ of_bits binary64 b
   unfolding div of_bits
-  above h = is_nan (of_bits binary64 b) (sym (nan_bits_is binary64 b) ∙ nan_bits_above binary64 b ∙ lt-ltb 0x7ff0_0000_0000_0000 (b % 2 ^ 63) h)
+  above h = is_nan_lem (of_bits binary64 b) (sym (nan_bits_is binary64 b) ∙ nan_bits_above binary64 b ∙ lt-ltb 0x7ff0_0000_0000_0000 (b % 2 ^ 63) h)
 
   pub not_above : b % 2 ^ 63 ≤ 0x7ff0_0000_0000_0000 → T (not (nan_bits binary64 b))
   not_above h = subst T (sym (ap not (nan_bits_above binary64 b ∙ le-ltb 0x7ff0_0000_0000_0000 (b % 2 ^ 63) h))) tt

@@ -1,0 +1,17 @@
+-- What is still to be written is what the deliveries from `i` on show; each turn writes the line of one.
+use borrow.Author.Rules.{rules}
+use native.Mathlib.Omega.{arith}
+use Prim.Native.Nat.{◌≤◌, ◌-◌}
+use lib.ListN.{length, drop, length-drop}
+use Rattle.output.specs.Output.{output}
+use Rattle.output.proofs.OutputLaws.{same}
+use Rattle.output.proofs.RestLaws as R
+use Rattle.terminal.specs.Shown.{shown_to}
+use Rattle.terminal.proofs.ShownLaws.{shown_none, shown_more}
+use Rattle.terminal.proofs.put_shown.Given as goal
+
+abbrev pub invariant-loop-i : goal.invariant-loop-i
+invariant-loop-i l = (l.i ≤ length l.bytes) × R.Rest (output l.initial.into l.at) (shown_to l.client l.bytes) (output l.into l.p) (shown_to l.client (drop l.i l.bytes))
+
+abbrev pub decreases-loop-i : goal.decreases-loop-i
+decreases-loop-i l = length l.bytes - l.i
