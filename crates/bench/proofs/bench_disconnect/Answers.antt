@@ -1,0 +1,14 @@
+-- The call behind the connect, on the state that opening gave.
+use borrow.Author.Rules.{rules}
+use mathlib.Core.Path.{ap, ◌∙◌}
+use mathlib.Core.Bool.{cond}
+use Rattle.machine.specs.declared.Answer.{Answer}
+use Rattle.machine.specs.Range.{in_range}
+use Rattle.bench.proofs.bench_disconnect.Goals as goal
+
+pub returns : goal.returns
+returns c = let e = c.open-fresh.ensures in
+    let b = c.connect-greeted.ensures in let a = c.disconnect-answer.ensures in record {
+      value = c.judged.ensures ∙ ap (λ (x : Answer). cond (in_range x.state) x.number 255) (rw (b.value, b.out_after, e) at a.value);
+      out_after = rw (b.value, b.out_after, e) at a.out_after;
+    }

@@ -1,0 +1,22 @@
+-- After k turns the count is k where the state is in range, else 0.
+use Prim.Native.Nat.{◌≤◌, ◌-◌}
+use mathlib.Core.Path.{◌≡◌}
+use mathlib.Core.Bool.{cond}
+use borrow.Author.Rules.{rules}
+use native.Mathlib.Omega.{arith}
+use Rattle.machine.specs.Range.{in_range}
+use Rattle.bench.proofs.RunLaws.{at_most_lem, none_yet, one_more}
+use Rattle.bench.proofs.check.Goals as goal
+
+pub loop-k-init : goal.loop-k-init
+loop-k-init c = (omega arith, none_yet (in_range c.args.state))
+
+pub counted-passed-requires : goal.counted-passed-requires
+counted-passed-requires c = omega (arith, at_most_lem (in_range c.args.state) c.loop-k.k c.loop-k.invariant.1)
+
+pub loop-k-preserved : goal.loop-k-preserved
+loop-k-preserved c = (omega arith, one_more (in_range c.args.state) c.loop-k.k c.in_range.ensures c.loop-k.invariant.1 c.counted-passed.ensures.0)
+
+pub returns : goal.returns
+returns c = let e : c.loop-k.k ≡ c.args.n = omega arith in
+    rw (← e) c.loop-k.invariant.1
