@@ -88,7 +88,8 @@ fn shifted(whole: &[u8], fraction: &[u8], up: usize, down: usize) -> u64
         texts::rest(fraction, right),
         1,
     );
-    if 0 < left_behind {
+    let lost = 0 < left_behind;
+    if lost {
         return ABOVE;
     }
     let high = texts::prefix(whole, keep);

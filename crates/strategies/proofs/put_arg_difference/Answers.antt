@@ -7,24 +7,24 @@ use Rattle.strategies.proofs.put_arg_difference.Goals as goal
 
 pub returns-in-1 : goal.returns-in-1
 unfolding difference_text
-returns-in-1 c = rw c.in-1.is c.put_arg_whole_difference.ensures
+returns-in-1 c = rw c.in-1.is (search rules)
 
 pub returns-in-2 : goal.returns-in-2
 unfolding difference_text
-returns-in-2 c = rw c.in-2.is c.put_arg_difference.ensures
+returns-in-2 c = rw c.in-2.is (search rules)
 
 pub returns-in-3 : goal.returns-in-3
 unfolding difference_text
-returns-in-3 c = rw c.in-3.is c.put_arg_difference-in-3.ensures
+returns-in-3 c = rw c.in-3.is (search rules)
 
 pub returns-in-4 : goal.returns-in-4
 unfolding difference_text
-returns-in-4 c = rw c.in-4.is c.put_arg_difference-in-4.ensures
+returns-in-4 c = rw c.in-4.is (search rules)
 
 pub returns-in-5 : goal.returns-in-5
 unfolding difference_text
-returns-in-5 c = rw c.in-5.is c.put_arg_difference-in-5.ensures
+returns-in-5 c = rw c.in-5.is (search rules)
 
 pub returns-in_default : goal.returns-in_default
 unfolding difference_text
-returns-in_default c = rw (ne_eqb _ 1 c.in_default.in_default-own.rest.0.0.0.0.1) c.put_arg_difference-in_default.ensures
+returns-in_default c = rw (ne_eqb _ 1 c.in_default.in_default-own.rest.0.0.0.0.1) (search rules)
