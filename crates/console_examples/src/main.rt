@@ -2,6 +2,8 @@
 //! number of the call that the line makes, and what client 0 is sent; the unit is that of `sheet.lgu`.
 #![tactic(auto)]
 
+ghost use Rattle.stream.specs.Content.{Within};
+
 use machine::State;
 use std::fs::File;
 use std::io::{Read, Write};
@@ -80,8 +82,10 @@ fn run<R: Read, W: Write, E: Write>(
     show_lines(to, &buf[..n], asked.state, &mut out)
 }
 
-// The bytes of the sheet, where it can be opened.
-fn read_sheet<R: Files>(rt: &R, sheet: &mut [u8]) -> Content {
+// The bytes of the sheet; where it cannot be opened, it is not read.
+fn read_sheet<R: Files>(rt: &R, sheet: &mut [u8]) -> Content
+    ensures { Within sheet.new result }
+{
     let Ok(mut file) = File::open(rt, "sheet.lgu") else {
         return Content::Unread;
     };

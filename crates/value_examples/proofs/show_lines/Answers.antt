@@ -1,5 +1,5 @@
 -- The line that starts at `at` ends within the text.
-use Rattle.std.proofs.Common.{rules, arith, length, ◌+◌, ◌≤◌}
+use Rattle.std.proofs.Common.{rules, arith}
 use Rattle.texts.proofs.BeforeLaws.{before_fits}
 use Rattle.value_examples.proofs.show_lines.Goals as goal
 
