@@ -2,12 +2,16 @@
 //! it: `+` and what follows for good, `?` for this line alone; behind a line `-` it is the blank state. For each line it prints the line, and 1
 //! where the state is then in range, else 0.
 //! Behind the field's name stand its place (sensor, client, subscription), its index in an array, and its value.
+#![tactic(auto)]
+
 use line::Copied;
 use machine::{Client, Sensor, Sheet, State, Stored, Strategy, Subscription};
+use std::io::Write;
+use std::rt::HostRuntime;
 use value::{Limits, Sample};
 
 // The numbers behind the field's name, 0 where there are fewer.
-#[derive(Drop)]
+#[derive(Clone, Copy)]
 struct Numbers {
     a: u64,
     b: u64,
@@ -307,22 +311,22 @@ fn with_field(s: State, line: &[u8], n: Numbers) -> State {
 }
 
 // Whether all was printed.
-fn print_range(line: &[u8], s: State) -> bool {
+fn print_range<W: Write>(to: &mut W, line: &[u8], s: State) -> bool {
     if sheet::in_range(s) {
-        return stream::print(line) && stream::print(b" 1\n");
+        return stream::print(to, line) && stream::print(to, b" 1\n");
     }
-    stream::print(line) && stream::print(b" 0\n")
+    stream::print(to, line) && stream::print(to, b" 0\n")
 }
 
 // The state after a line, and whether all was printed.
-#[derive(Drop)]
+#[derive(Clone, Copy)]
 struct Turn {
     state: State,
     printed: bool,
 }
 
 // The state after a line: the changed one where the line begins with `+`, the blank one where it begins with `-`.
-fn show(line: &[u8], s: State, blank: State) -> Turn {
+fn show<W: Write>(to: &mut W, line: &[u8], s: State, blank: State) -> Turn {
     let next = with_field(s, line, numbers_of(line));
     if line.len() == 0 {
         return Turn {
@@ -333,10 +337,10 @@ fn show(line: &[u8], s: State, blank: State) -> Turn {
     if line[0] == b'-' {
         return Turn {
             state: blank,
-            printed: print_range(line, blank),
+            printed: print_range(to, line, blank),
         };
     }
-    let printed = print_range(line, next);
+    let printed = print_range(to, line, next);
     if line[0] == b'+' {
         return Turn {
             state: next,
@@ -350,12 +354,12 @@ fn show(line: &[u8], s: State, blank: State) -> Turn {
 }
 
 // Whether all was printed.
-fn show_lines(s: &[u8], first: State, blank: State) -> bool {
+fn show_lines<W: Write>(to: &mut W, s: &[u8], first: State, blank: State) -> bool {
     let mut state = first;
     let mut at = 0;
     while at < s.len() {
         let e = at + texts::len_before(&s[at..], 10);
-        let turn = show(&s[at..e], state, blank);
+        let turn = show(to, &s[at..e], state, blank);
         if !turn.printed {
             return false;
         }
@@ -365,17 +369,19 @@ fn show_lines(s: &[u8], first: State, blank: State) -> bool {
     true
 }
 
-fn main() {
+fn main(rt: HostRuntime) {
+    let to = &mut rt.stdout();
+    let errors = &mut rt.stderr();
     let mut input = io::large_buffer();
-    let n = stream::read_input(&mut input);
+    let n = stream::read_input(&mut rt.stdin(), errors, &mut input);
     let broken = sheet::open(0, b"");
     let opened = sheet::open(
         0,
         b"LGU\0\x01\x07lgu-1.0\x02b7\x05\x04load\x09Car load.\x02kg\x01\x04\0\0\0\0\0\0\x03\xe8\xff\xff\xff\xfb\0\0\x04\xb0\x05speed\0\x03m/s\x02\x02\xff\xff\xf8\0\0\0\x08\0\x04door\0\0\x04\x03\x04shut\x04open\x06moving\x04call\0\0\x03\x05start\0\0\x05",
     );
-    if !(print_range(b"opened", opened.state)
-        && show_lines(&input[..n], opened.state, broken.state))
+    if !(print_range(to, b"opened", opened.state)
+        && show_lines(to, &input[..n], opened.state, broken.state))
     {
-        stream::say_unwritten();
+        stream::say_unwritten(errors);
     }
 }

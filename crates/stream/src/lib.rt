@@ -1,31 +1,40 @@
-//! What a program reads and writes, by descriptors. A call that was interrupted or whose descriptor is not ready is made again; a call that fails
-//! is told from the end of the input, and ends the work.
-ghost use Rattle.std.specs.Prelude.{◌+◌, ◌≤◌, ◌≡◌, true, false, [], T, length, take};
-ghost use Rattle.std.specs.Int.Signed.{non_neg};
+//! What a program reads and writes: a reader or a writer is lent to each call. A call that was interrupted or whose descriptor is not ready is made
+//! again; a call that fails is told from the end of the input, and ends the work.
+#![tactic(auto)]
+
+ghost use Rattle.std.specs.Prelude.{◌+◌, ◌≤◌, ◌≡◌, true, false, [], length, take, IsOk};
 ghost use Rattle.stream.specs.Filled.{Behind, Filled};
 ghost use Rattle.stream.specs.Content.{Within};
 ghost use Rattle.stream.specs.Errors.{is_to_repeat};
 ghost use Rattle.io.specs.Counts.{IsPrefixLen};
 
 use input::Window;
-use libc::{STDERR_FILENO, STDIN_FILENO, STDOUT_FILENO};
+use std::fs::{OpenFile, OpenOptions};
+use std::io::{ErrorKind, Read, Write};
+use std::os::fd::AsFd;
+use std::rt::Files;
+
+// The numbers of the errors of a call that is to be made again: a signal interrupted it, or its descriptor was not ready.
+const EINTR: i32 = 4;
+
+const EAGAIN: i32 = 11;
 
 // How many bytes a buffer holds after a read, and whether the read failed.
-#[derive(Drop)]
+#[derive(Clone, Copy)]
 struct Held {
     to: usize,
     failed: bool,
 }
 
 // The window of the bytes that came, and whether the read failed.
-#[derive(Drop)]
+#[derive(Clone, Copy)]
 pub struct Refilled {
     pub window: Window,
     pub failed: bool,
 }
 
 // An input that was read: so many bytes where they are all of it; more than the buffer has room for; or a read that failed.
-#[derive(Drop)]
+#[derive(Clone, Copy)]
 pub enum Content {
     Whole(usize),
     TooLong,
@@ -36,31 +45,34 @@ pub enum Content {
 fn is_to_repeat(got: isize, error: i32) -> bool
     ensures { result ≡ is_to_repeat got error }
 {
-    (got < 0) & ((error == libc::EINTR) | (error == libc::EAGAIN))
+    (got < 0) & ((error == EINTR) | (error == EAGAIN))
 }
 
-// The same of the last call. Before it is made again, the processor is given to others.
-fn again(got: isize) -> bool
-    ensures { T (non_neg got) → result ≡ false }
+// The same of a call's answer. Before it is made again, the processor is given to others.
+fn again(answer: &std::io::Result<usize>) -> bool
+    ensures { IsOk answer.now → result ≡ false }
 {
-    let repeat = is_to_repeat(got, os::errno());
+    let Err(error) = answer else {
+        return false;
+    };
+    let repeat = is_to_repeat(-1, error.raw_os_error().unwrap_or(0));
     if repeat {
-        libc::sched_yield();
+        std::thread::yield_now();
     }
     repeat
 }
 
 // Writes the bytes in their order, each write from where the last one stopped: how many were taken, which is all of them, or those before the
 // first write that failed. In at most 2^64 writes: a descriptor need not become ready, and this ends.
-pub fn write_all(fd: i32, bytes: &[u8]) -> usize
+pub fn write_all<W: Write>(to: &mut W, bytes: &[u8]) -> usize
     ensures { result ≤ length bytes.now }
 {
     let mut at: usize = 0;
     let mut turns = u64::MAX;
     while (at < bytes.len()) & (0 < turns) {
-        let got = libc::write(fd, &bytes[at..]);
-        let repeat = again(got);
-        let taken = io::count(got, &bytes[at..]);
+        let answer = to.write(&bytes[at..]);
+        let repeat = again(&answer);
+        let taken = answer.unwrap_or(0);
         if (taken == 0) & !repeat {
             return at;
         }
@@ -70,75 +82,95 @@ pub fn write_all(fd: i32, bytes: &[u8]) -> usize
     at
 }
 
-// The bytes go to standard output: whether all were taken.
-pub fn print(bytes: &[u8]) -> bool
+// The bytes go to an output: whether all were taken.
+pub fn print<W: Write>(to: &mut W, bytes: &[u8]) -> bool
     ensures { bytes.now ≡ [] → result ≡ true }
 {
-    write_all(STDOUT_FILENO, bytes) == bytes.len()
+    write_all(to, bytes) == bytes.len()
 }
 
-// A number goes to standard output, in decimal: whether all its digits were taken.
-pub fn print_decimal(n: u64) -> bool {
+// A number goes to an output, in decimal: whether all its digits were taken.
+pub fn print_decimal<W: Write>(to: &mut W, n: u64) -> bool {
     let mut digits = [0u8; 20];
     let k = io::decimal(n, &mut digits);
-    print(&digits[..k])
+    print(to, &digits[..k])
 }
 
-// Standard output is closed behind its last byte, since some disks say only then that they did not take all: whether it was.
-pub fn close_output() -> bool {
-    libc::close(STDOUT_FILENO) == 0
+// What standard output was given goes to its disk behind the last byte, since some disks say only then that they did not take all: whether it is
+// still open and its disk, where it has one, took all.
+pub fn close_output<R: Files, W: AsFd>(rt: &R, out: &W) -> bool {
+    let open = out.as_fd().try_clone_to_owned().is_ok();
+    open && is_on_disk(rt, "/dev/stdout")
+}
+
+// Whether the disk took what the file was given. What is no file, or cannot be asked, has no disk that could say otherwise.
+fn is_on_disk<R: Files>(rt: &R, path: &str) -> bool {
+    let is_file = std::fs::metadata(rt, path).is_ok_and(|about| about.is_file());
+    if !is_file {
+        return true;
+    }
+    let Ok(file) = OpenOptions::new().append(true).open(rt, path) else {
+        return true;
+    };
+    match file.sync_data() {
+        Ok(()) => true,
+        Err(error) => error.kind() == ErrorKind::InvalidInput,
+    }
 }
 
 // A sentence goes to standard error.
-pub fn complain(why: &[u8]) {
-    write_all(STDERR_FILENO, why);
+pub fn complain<W: Write>(errors: &mut W, why: &[u8]) {
+    write_all(errors, why);
 }
 
 // The sentence of a program that stops at a write that failed.
-pub fn say_unwritten() {
-    complain(b"Standard output cannot be written: the lines end here.\n");
+pub fn say_unwritten<W: Write>(errors: &mut W) {
+    complain(
+        errors,
+        b"Standard output cannot be written: the lines end here.\n",
+    );
 }
 
 // The sentence of a program that stops at a read that failed.
-pub fn say_unread() {
-    complain(b"Standard input cannot be read.\n");
+pub fn say_unread<W: Write>(errors: &mut W) {
+    complain(errors, b"Standard input cannot be read.\n");
 }
 
 // A read behind the first `to` bytes of the buffer, in at most 2^64 tries. The end of the input, and a buffer that is full, bring no bytes.
-fn read_behind(fd: i32, buf: &mut [u8], to: usize) -> Held
+fn read_behind<R: Read>(input: &mut R, buf: &mut [u8], to: usize) -> Held
     requires { to ≤ length buf.old }
     ensures { Behind buf.old to buf.new result.to result.failed }
 {
-    let mut got: isize = -1;
+    let mut came = None;
     let mut repeat = true;
     let mut turns = u64::MAX;
     while repeat & (0 < turns) {
-        got = libc::read(fd, &mut buf[to..]);
-        repeat = again(got);
+        let answer = input.read(&mut buf[to..]);
+        repeat = again(&answer);
+        came = answer.ok();
         turns -= 1;
     }
-    if got < 0 {
+    let Some(n) = came else {
         return Held {
             to: to,
             failed: true,
         };
-    }
-    let came = io::count(got, &buf[to..]);
+    };
     Held {
-        to: to + came,
+        to: to + n,
         failed: false,
     }
 }
 
 // Room is made for more behind the pending bytes, and more is read: the bytes that came are those of the window that is answered, and none where
 // the input has ended, the read failed or there is no room. Where the pending bytes fill the buffer, the first `most` of them are kept.
-pub fn refill(buf: &mut [u8], w: Window, most: usize) -> Refilled
+pub fn refill<R: Read>(input: &mut R, buf: &mut [u8], w: Window, most: usize) -> Refilled
     ensures filled { Filled buf.old w most buf.new result.window }
     ensures to_value { result.failed ≡ true → result.window.to ≡ result.window.from }
 {
     let rest = input::make_room(buf, w, most);
     let from = rest.to;
-    let held = read_behind(STDIN_FILENO, buf, from);
+    let held = read_behind(input, buf, from);
     let to = held.to;
     Refilled {
         window: Window { from: from, to: to },
@@ -147,14 +179,14 @@ pub fn refill(buf: &mut [u8], w: Window, most: usize) -> Refilled
 }
 
 // Reads to the end of the input, which is known where the buffer has room left.
-pub fn read_all(fd: i32, buf: &mut [u8]) -> Content
+pub fn read_all<R: Read>(input: &mut R, buf: &mut [u8]) -> Content
     ensures { Within buf.new result }
 {
     let mut from: usize = 0;
-    let mut held = read_behind(fd, buf, 0);
+    let mut held = read_behind(input, buf, 0);
     while from < held.to {
         from = held.to;
-        held = read_behind(fd, buf, from);
+        held = read_behind(input, buf, from);
     }
     if held.failed {
         return Content::Unread;
@@ -166,16 +198,16 @@ pub fn read_all(fd: i32, buf: &mut [u8]) -> Content
 }
 
 // All of standard input: how many bytes it has. Where it cannot be read or the buffer is too short for it, a sentence says so, and there are none.
-pub fn read_input(buf: &mut [u8]) -> usize
+pub fn read_input<R: Read, W: Write>(input: &mut R, errors: &mut W, buf: &mut [u8]) -> usize
     ensures { IsPrefixLen result buf.new }
 {
-    let content = read_all(STDIN_FILENO, buf);
+    let content = read_all(input, buf);
     match content {
         Content::Whole(n) => {
             return n;
         }
-        Content::TooLong => complain(b"Standard input is too long.\n"),
-        Content::Unread => say_unread(),
+        Content::TooLong => complain(errors, b"Standard input is too long.\n"),
+        Content::Unread => say_unread(errors),
     }
     0
 }

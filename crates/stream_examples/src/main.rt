@@ -1,82 +1,132 @@
 //! What a stored run can show of `stream`, a line for each: writes that fail and one of nothing, files that end, files that the buffer is too short
 //! for, and reads that fail. Then standard input, through a buffer of 16 bytes, and that it ended.
+#![tactic(auto)]
+
 use input::Window;
+use std::fs::File;
+use std::io::{Error, Read, Result, Write};
+use std::rt::{Files, HostRuntime};
 use stream::Content;
 
 // A line: what was done, a number and what it counts.
-fn show_count(what: &[u8], n: usize, unit: &[u8]) -> bool {
+fn show_count<W: Write>(to: &mut W, what: &[u8], n: usize, unit: &[u8]) -> bool {
     let mut line = [0u8; 128];
     let p = output::put_bytes(&mut line, 0, what);
     let p = output::put_decimal(&mut line, p, n as u64);
     let p = output::put_bytes(&mut line, p, unit);
-    stream::print(texts::prefix(&line, p))
+    stream::print(to, texts::prefix(&line, p))
+}
+
+// A descriptor that is not open, to which the system answers EBADF. No call of std lends one.
+#[derive(Clone, Copy)]
+struct Closed;
+
+impl Read for Closed {
+    fn read(&mut self, _buf: &mut [u8]) -> Result<usize> {
+        Err(Error::from_raw_os_error(9))
+    }
+}
+
+impl Write for Closed {
+    fn write(&mut self, _buf: &[u8]) -> Result<usize> {
+        Err(Error::from_raw_os_error(9))
+    }
+
+    fn flush(&mut self) -> Result<()> {
+        Ok(())
+    }
 }
 
 // How many bytes of a word a descriptor takes.
-fn show_write(what: &[u8], fd: i32, word: &[u8]) -> bool {
-    let taken = stream::write_all(fd, word);
-    show_count(what, taken, b" bytes taken\n")
+fn show_write<W: Write, F: Write>(to: &mut W, what: &[u8], file: &mut F, word: &[u8]) -> bool {
+    let taken = stream::write_all(file, word);
+    show_count(to, what, taken, b" bytes taken\n")
 }
 
 // What a descriptor holds, through a buffer of 64 bytes.
-fn show_read(what: &[u8], fd: i32) -> bool {
+fn show_read<W: Write, F: Read>(to: &mut W, what: &[u8], file: &mut F) -> bool {
     let mut buf = [0u8; 64];
-    let content = stream::read_all(fd, &mut buf);
+    let content = stream::read_all(file, &mut buf);
     match content {
-        Content::Whole(n) => show_count(what, n, b" bytes and the end\n"),
-        Content::TooLong => stream::print(what) && stream::print(b"longer than the buffer\n"),
-        Content::Unread => stream::print(what) && stream::print(b"the read failed\n"),
+        Content::Whole(n) => show_count(to, what, n, b" bytes and the end\n"),
+        Content::TooLong => stream::print(to, what)
+            && stream::print(to, b"longer than the buffer\n"),
+        Content::Unread => stream::print(to, what) && stream::print(to, b"the read failed\n"),
     }
 }
 
-fn show_file(what: &[u8], path: &[u8]) -> bool {
-    let fd = os::open_read(path);
-    let shown = show_read(what, fd);
-    libc::close(fd);
-    shown
+fn show_file<R: Files, W: Write>(rt: &R, to: &mut W, what: &[u8], path: &str) -> bool {
+    match File::open(rt, path) {
+        Ok(mut file) => show_read(to, what, &mut file),
+        Err(_) => show_read(to, what, &mut Closed),
+    }
 }
 
 // A descriptor that is open for reading only, and one that is not open.
-fn show_writes() -> bool {
-    let fd = os::open_read(b"short");
-    let shown = show_write(b"write of nothing: ", fd, b"")
-        && show_write(b"write to a file that is open for reading: ", fd, b"word\n")
-        && show_write(b"write to a descriptor that is closed: ", -1, b"word\n");
-    libc::close(fd);
-    shown
+fn show_writes_to<W: Write, F: Write>(to: &mut W, file: &mut F) -> bool {
+    show_write(to, b"write of nothing: ", file, b"")
+        && show_write(
+            to,
+            b"write to a file that is open for reading: ",
+            file,
+            b"word\n",
+        )
+        && show_write(
+            to,
+            b"write to a descriptor that is closed: ",
+            &mut Closed,
+            b"word\n",
+        )
 }
 
-fn show_reads() -> bool {
-    show_file(b"read of an empty file: ", b"empty")
-        && show_file(b"read of a file of 63 bytes: ", b"short")
-        && show_file(b"read of a file of 64 bytes: ", b"full")
-        && show_file(b"read of a file of 200 bytes: ", b"long")
-        && show_file(b"read of a directory: ", b".")
-        && show_read(b"read of a descriptor that is closed: ", -1)
+fn show_writes<R: Files, W: Write>(rt: &R, to: &mut W) -> bool {
+    match File::open(rt, "short") {
+        Ok(mut file) => show_writes_to(to, &mut file),
+        Err(_) => show_writes_to(to, &mut Closed),
+    }
+}
+
+fn show_reads<R: Files, W: Write>(rt: &R, to: &mut W) -> bool {
+    show_file(rt, to, b"read of an empty file: ", "empty")
+        && show_file(rt, to, b"read of a file of 63 bytes: ", "short")
+        && show_file(rt, to, b"read of a file of 64 bytes: ", "full")
+        && show_file(rt, to, b"read of a file of 200 bytes: ", "long")
+        && show_file(rt, to, b"read of a directory: ", ".")
+        && show_read(to, b"read of a descriptor that is closed: ", &mut Closed)
 }
 
 // Standard input to standard output, until it ends or one of the two fails.
-fn copy_input(buf: &mut [u8]) -> bool {
-    let mut more = stream::refill(buf, Window { from: 0, to: 0 }, 0);
+fn copy_input<R: Read, W: Write, E: Write>(
+    input: &mut R,
+    to: &mut W,
+    errors: &mut E,
+    buf: &mut [u8],
+) -> bool {
+    let mut more = stream::refill(input, buf, Window { from: 0, to: 0 }, 0);
     let mut turns = u64::MAX;
     while (more.window.from < more.window.to) & (0 < turns) {
         let end = more.window.to;
-        if !stream::print(&buf[..end]) {
+        if !stream::print(to, &buf[..end]) {
             return false;
         }
-        more = stream::refill(buf, Window { from: 0, to: 0 }, 0);
+        more = stream::refill(input, buf, Window { from: 0, to: 0 }, 0);
         turns -= 1;
     }
     if more.failed {
-        stream::say_unread();
+        stream::say_unread(errors);
         return true;
     }
-    stream::print(b"standard input ended\n")
+    stream::print(to, b"standard input ended\n")
 }
 
-fn main() {
+fn main(rt: HostRuntime) {
+    let to = &mut rt.stdout();
+    let errors = &mut rt.stderr();
     let mut buf = [0u8; 16];
-    if !(show_writes() && show_reads() && copy_input(&mut buf)) {
-        stream::say_unwritten();
+    if !(show_writes(&rt, to)
+        && show_reads(&rt, to)
+        && copy_input(&mut rt.stdin(), to, errors, &mut buf))
+    {
+        stream::say_unwritten(errors);
     }
 }

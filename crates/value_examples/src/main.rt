@@ -2,30 +2,34 @@
 //! line is as an integer difference, a float difference, a period and a shortest period (`19` where it is none), each written again; and of
 //! a line of 16 hex digits, the text of the double with these bits as a reading of a float sensor (`10` where it is unfit). A function that prints
 //! answers whether all was taken.
+#![tactic(auto)]
+
 ghost use Rattle.std.specs.Prelude.{◌≡◌};
 
+use std::io::Write;
+use std::rt::HostRuntime;
 use value::{Parameter, Reading, Sampled};
 
-fn print_difference(p: Parameter, whole: bool) -> bool {
+fn print_difference<W: Write>(to: &mut W, p: Parameter, whole: bool) -> bool {
     let mut out = [0u8; 32];
     let Parameter::Is(d) = p else {
-        return stream::print(b"19");
+        return stream::print(to, b"19");
     };
     if whole {
         let n = output::put_whole_difference(&mut out, 0, d);
-        return stream::print(texts::prefix(&out, n));
+        return stream::print(to, texts::prefix(&out, n));
     }
     let n = output::put_difference(&mut out, 0, d);
-    stream::print(texts::prefix(&out, n))
+    stream::print(to, texts::prefix(&out, n))
 }
 
-fn print_period(p: Parameter) -> bool {
+fn print_period<W: Write>(to: &mut W, p: Parameter) -> bool {
     let mut out = [0u8; 32];
     let Parameter::Is(ms) = p else {
-        return stream::print(b"19");
+        return stream::print(to, b"19");
     };
     let n = output::put_time(&mut out, 0, ms);
-    stream::print(texts::prefix(&out, n))
+    stream::print(to, texts::prefix(&out, n))
 }
 
 // The double with these bits.
@@ -36,14 +40,14 @@ fn double_of(bits: u64) -> f64 {
     f64::from_bits(bits)
 }
 
-fn print_double(bits: u64) -> bool {
+fn print_double<W: Write>(to: &mut W, bits: u64) -> bool {
     let mut out = [0u8; 32];
     let reading = Reading::Float(double_of(bits));
     let Sampled::As(s) = value::sample_of(2, 0, reading) else {
-        return stream::print(b"10");
+        return stream::print(to, b"10");
     };
     let n = output::put_float(&mut out, 0, s.number);
-    stream::print(texts::prefix(&out, n))
+    stream::print(to, texts::prefix(&out, n))
 }
 
 // The number of a hex digit, 16 for any other byte.
@@ -92,31 +96,31 @@ fn hex_value(s: &[u8]) -> u64 {
 }
 
 // The double of a line of hex digits, behind a space.
-fn show_double(text: &[u8]) -> bool {
+fn show_double<W: Write>(to: &mut W, text: &[u8]) -> bool {
     if is_hex(text) {
-        return stream::print(b" ") && print_double(hex_value(text));
+        return stream::print(to, b" ") && print_double(to, hex_value(text));
     }
     true
 }
 
-fn show(text: &[u8]) -> bool {
-    print_difference(value::read_integer_difference(text), true)
-        && stream::print(b" ")
-        && print_difference(value::read_float_difference(text), false)
-        && stream::print(b" ")
-        && print_period(value::read_period(text))
-        && stream::print(b" ")
-        && print_period(value::read_shortest(text))
-        && show_double(text)
-        && stream::print(b"\n")
+fn show<W: Write>(to: &mut W, text: &[u8]) -> bool {
+    print_difference(to, value::read_integer_difference(text), true)
+        && stream::print(to, b" ")
+        && print_difference(to, value::read_float_difference(text), false)
+        && stream::print(to, b" ")
+        && print_period(to, value::read_period(text))
+        && stream::print(to, b" ")
+        && print_period(to, value::read_shortest(text))
+        && show_double(to, text)
+        && stream::print(to, b"\n")
 }
 
 // Whether all was printed.
-fn show_lines(s: &[u8]) -> bool {
+fn show_lines<W: Write>(to: &mut W, s: &[u8]) -> bool {
     let mut at = 0;
     while at < s.len() {
         let e = at + texts::len_before(&s[at..], 10);
-        if !show(&s[at..e]) {
+        if !show(to, &s[at..e]) {
             return false;
         }
         at = e + 1;
@@ -124,10 +128,12 @@ fn show_lines(s: &[u8]) -> bool {
     true
 }
 
-fn main() {
+fn main(rt: HostRuntime) {
+    let to = &mut rt.stdout();
+    let errors = &mut rt.stderr();
     let mut input = io::large_buffer();
-    let n = stream::read_input(&mut input);
-    if !show_lines(&input[..n]) {
-        stream::say_unwritten();
+    let n = stream::read_input(&mut rt.stdin(), errors, &mut input);
+    if !show_lines(to, &input[..n]) {
+        stream::say_unwritten(errors);
     }
 }

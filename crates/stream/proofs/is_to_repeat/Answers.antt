@@ -1,18 +1,9 @@
 -- An answer is negative by its sign, and an error's number is read by its bits.
-use Prim.Native.Nat.{suc, ◌-◌, ◌^◌}
-use native.Mathlib.Omega.{arith}
-use mathlib.Core.Path.{◌≡◌, refl}
-use mathlib.Core.Bool.{◌&&◌, ◌||◌}
-use lib.Dec.{eqb}
-use lib.IntN.{ℤ, pos, negsuc}
-use lib.Signed.{lt_z}
-use mir.Syntax.{w32}
-use mir.Val.{of_z, SFits}
-use mir.Facts.{to_z-of_z}
+use Rattle.std.proofs.Common.{suc, ◌-◌, ◌^◌, ◌≡◌, refl, arith, ◌&&◌, ◌||◌, eqb, ℤ, pos, negsuc, w32, SFits, of_z, to_z-of_z}
+use Rattle.std.specs.Int.Signed.{lt_z}
 use borrow.Author.Tests.{le-ltb, ne_eqb}
 use Rattle.stream.specs.Errors.{passes, is_to_repeat}
-use Rattle.stream.proofs.is_to_repeat.Statement.{statement}
-use Rattle.stream.proofs.is_to_repeat.Tie as tie
+use Rattle.stream.proofs.is_to_repeat.Goals as goal
 
 by_bits : (error : ℤ) → SFits w32 error → eqb (of_z w32 error) 4 || eqb (of_z w32 error) 11 ≡ passes error
 unfolding passes
@@ -24,6 +15,5 @@ unfolding is_to_repeat
 by_sign (pos n) error = rw (le-ltb n 0 (omega arith))
 by_sign (negsuc n) error = refl
 
-pub is-to-repeat-spec : {M : Type 1} → statement M
-is-to-repeat-spec = tie.close (tie.spec
-    (λ c. rw (to_z-of_z c.ranges.got, by_bits c.args.error c.ranges.error) (by_sign c.args.got c.args.error)))
+pub returns : goal.returns
+returns c = rw (to_z-of_z c.ranges.got, by_bits c.args.error c.ranges.error) (by_sign c.args.got c.args.error)

@@ -1,2 +1,0 @@
-pub mod FilledLaws
-pub mod TurnLaws
