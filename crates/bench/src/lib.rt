@@ -1,6 +1,8 @@
 //! Calls made n times inside one function, for measuring from Rust: a sheet is opened, clients are connected and each sends a line, and then the
 //! call is made n times. What is answered is how many of the n calls were taken. And each call made once, on a device just opened, for what it
 //! needs of the stack.
+#![tactic(auto)]
+
 ghost use Rattle.std.specs.Prelude.{◌≡◌, cond, [], ◌+◌, ◌-◌, ◌^◌, ◌<◌, ◌≤◌, eqb};
 ghost use Rattle.output.specs.Text.{text};
 ghost use Rattle.machine.specs.Range.{in_range};

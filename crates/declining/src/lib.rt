@@ -1,4 +1,6 @@
 //! What several calls are declined by, and what a declined call answers.
+#![tactic(auto)]
+
 ghost use Rattle.std.specs.Prelude.{◌≡◌, cond, not, ltb, get_or};
 ghost use Rattle.machine.specs.State as states;
 ghost use Rattle.machine.specs.Declined as calls;

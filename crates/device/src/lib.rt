@@ -1,5 +1,7 @@
 //! The calls of the unit. Each but `open` is handed the state and lent an output, and answers with its number, how many bytes it wrote and
 //! the next state; what it answers and what the output holds then are those of `step`, for every argument.
+#![tactic(auto)]
+
 ghost use Rattle.std.specs.Prelude.{◌≡◌, cond, ◌&&◌, [], ◌++◌, ◌/◌, ◌≤◌, ◌<◌, eqb, leb, ltb, length, get_or};
 ghost use Rattle.output.specs.Output.{output};
 ghost use Rattle.output.specs.Read.{in_time};

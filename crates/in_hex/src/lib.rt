@@ -1,4 +1,6 @@
 //! Bytes in lower-case hex: words that stand for bytes, and bytes written as such words.
+#![tactic(auto)]
+
 ghost use Rattle.std.specs.Prelude.{◌≡◌, ◌+◌, ◌*◌, ◌<◌, ◌≤◌, length};
 ghost use Rattle.output.specs.Output.{output, Wrote};
 ghost use Rattle.output.specs.Text.{all};

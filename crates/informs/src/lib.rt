@@ -1,5 +1,7 @@
 //! Informs that tell of no sensor: versions, log entries, and what several clients are told. "Wherever several clients are served, lower
 //! numbers come first".
+#![tactic(auto)]
+
 ghost use Rattle.std.specs.Prelude.{◌≡◌, not, ◌&&◌, [], ◌∷◌, eqb, get_or};
 ghost use Rattle.output.specs.Output.{output, Wrote};
 ghost use Rattle.message.specs.Message.{arg, line};

@@ -1,4 +1,6 @@
 //! What the programs read: lines out of a stream of bytes, the words of a line, and the signed numbers among them.
+#![tactic(auto)]
+
 ghost use Rattle.std.specs.Prelude.{◌≡◌, ◌-◌, ◌≤◌, min, length, drop, take};
 ghost use Rattle.output.specs.Output.{laid};
 ghost use Rattle.output.specs.Read.{read_integer};

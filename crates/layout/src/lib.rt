@@ -1,5 +1,7 @@
 //! The layout of a sheet (document 01, "Sheet"): its bytes are read from a cursor on, part by part, into the machine's Sheet. The rules
 //! that the parts keep are not asked here.
+#![tactic(auto)]
+
 ghost use Rattle.std.specs.Prelude.{◌≡◌, ◌≤◌, eqb, length, false};
 ghost use Rattle.machine.specs.Sheet.{no_limits};
 ghost use Rattle.machine.specs.State.{blank_choice, blank_sensor, blank_sheet};

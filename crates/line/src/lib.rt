@@ -1,5 +1,7 @@
 //! Message lines: the bytes of a line to a message (document 01, "Message lines"). A line is cut at its spaces and tabs; each word
 //! behind the first is an argument, which is found again by its place.
+#![tactic(auto)]
+
 ghost use Rattle.std.specs.Prelude.{◌≡◌, [], ◌+◌, ◌-◌, ◌≤◌, ◌<◌, length, get_or, take, drop};
 ghost use Rattle.output.specs.Output.{output, Wrote};
 ghost use Rattle.line.specs.Line as spec;

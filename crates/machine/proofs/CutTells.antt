@@ -9,7 +9,7 @@ use mathlib.Core.Option.{Option, none, some, some-injective}
 use lib.Dec.{ltb}
 use lib.ListN.{length}
 use borrow.Author.Tests.{ne_eqb, ltb-true, not-true}
-use Rattle.output.specs.Text.{text, same}
+use Rattle.output.specs.Text.{text}
 use Rattle.output.specs.Read.{read_time}
 use Rattle.message.specs.Message.{Message}
 use Rattle.line.specs.Line.{Parse, malformed, message, parse}

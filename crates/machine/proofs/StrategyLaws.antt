@@ -22,7 +22,7 @@ use Rattle.machine.specs.Places.{is_zero, has}
 use Rattle.machine.specs.Sheet.{sensor_of}
 use Rattle.machine.specs.State.{connected, pair_of, present, no_subscription, blank_client, client_at, with_clock, with_reading}
 use Rattle.machine.specs.Range.{is_none}
-use Rattle.machine.specs.Report.{Work, visit, due_at, reported}
+use Rattle.machine.specs.Report.{Work, visit, due_at}
 use Rattle.machine.specs.Requests.{Asked, Nothing, NotMessage, Reply, Unknown, Asks, asked, hidden, listed, strategy_asked, sampled, sampled_pairs, answer}
 use Rattle.machine.specs.Declined.{Action, Connect, Disconnect, Tick, Reading, Log, Line, Call, call_of, action_declined, arguments_declined, line_declined, count_fits, declined}
 use Rattle.machine.specs.Machine.{Effect, perform, line_work, step, stored_given}

@@ -1,4 +1,6 @@
 //! The state of the unit, as document 01 has it. What the unit does with it is defined in specs/; the crates above carry it out.
+#![tactic(auto)]
+
 ghost use Rattle.std.specs.Prelude.{◌≡◌};
 ghost use Rattle.machine.specs.Sheet.{single, last_client};
 ghost use Rattle.machine.specs.State.{start_level, no_subscription, blank_client};

@@ -1,5 +1,7 @@
 //! Messages written as lines: identifiers and arguments with their escapes; and deliveries, which give a client a line.
 //! Each writer has the contract of the writers of crate output.
+#![tactic(auto)]
+
 ghost use Rattle.std.specs.Prelude.{◌≡◌, [], ◌∷◌, ◌+◌, min, take};
 ghost use Rattle.output.specs.Output.{output, Wrote};
 ghost use Rattle.output.specs.Number.{decimal, time, integer, float, difference, whole_difference};

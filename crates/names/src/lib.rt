@@ -1,4 +1,6 @@
 //! Sensors by their names: the place of a name on the sheet, the scan of a comma list, and the list of all.
+#![tactic(auto)]
+
 ghost use Rattle.std.specs.Prelude.{◌≡◌, [], ◌<◌, min, length};
 ghost use Rattle.output.specs.Text as texts;
 ghost use Rattle.machine.specs.Places.{has, tabulate};

@@ -1,5 +1,7 @@
 //! What digits make, up to a cap; and the texts of numbers, read exactly as they are written: a text is that of a number where the number, written
 //! again, is the text.
+#![tactic(auto)]
+
 ghost use Rattle.std.specs.Prelude.{◌≡◌, cond, ◌&&◌, ◌++◌, ◌+◌, ◌-◌, ◌*◌, ◌/◌, ◌^◌, ◌<◌, ◌≤◌, min};
 ghost use Rattle.output.specs.Text as text;
 ghost use Rattle.output.specs.Read as reads;

@@ -1,5 +1,7 @@
 //! A lent output, and writers of bytes and numbers. A writer is lent the output and the place where it begins, and returns the
 //! place after what it wrote. Where the output ends, so does the text: nothing past the end is written.
+#![tactic(auto)]
+
 ghost use Rattle.std.specs.Prelude.{[], ◌∷◌, ◌+◌, ◌/◌, ◌%◌, ◌<◌, ◌≤◌};
 ghost use Rattle.output.specs.Output.{output, Wrote};
 ghost use Rattle.output.specs.Number.{digit, decimal, time, fraction_in, fixed, integer, float, difference, whole_difference};

@@ -1,4 +1,6 @@
 //! What requests are answered with: the informs that are tied to one, and its reply.
+#![tactic(auto)]
+
 ghost use Rattle.std.specs.Prelude.{◌≡◌, cond, [], ◌∷◌, map, ◌+◌, ◌<◌, length};
 ghost use Rattle.std.proofs.Math.Option.{some};
 ghost use Rattle.output.specs.Output.{output, Wrote};

@@ -1,4 +1,6 @@
 //! A client's line: what it asks, the rows that decline it, and the ten requests. `respond` is the whole call.
+#![tactic(auto)]
+
 ghost use Rattle.std.specs.Prelude.{◌≡◌, true, cond, [], ◌∷◌, map, ◌≤◌, ◌<◌, eqb, ltb, length, take, drop};
 ghost use Rattle.output.specs.Text.{text};
 ghost use Rattle.output.specs.Output.{output};

@@ -1,5 +1,7 @@
 //! The rules that the parts of a sheet keep (document 01, "Sheet"). Opening a sheet asks them of what was read, and the check of a state of
 //! what it was handed. Each is a straight pass with `&` and `|`, since a state is checked in every call.
+#![tactic(auto)]
+
 ghost use Rattle.std.specs.Prelude.{◌≡◌, cond, ◌+◌, ◌<◌, ◌≤◌, min, eqb, length, get_or};
 ghost use Rattle.machine.specs.Places.{all_below};
 ghost use Rattle.machine.specs.Sheet as sheets;

@@ -1,4 +1,6 @@
 //! Sampling: when a subscription reports, the report's line and its delivery, and the visit of all subscriptions at a tick or a reading.
+#![tactic(auto)]
+
 ghost use Rattle.std.specs.Prelude.{◌≡◌, [], ◌∷◌, ◌-◌, ◌<◌, take};
 ghost use Rattle.output.specs.Output.{output, Wrote};
 ghost use Rattle.message.specs.Message.{arg, line};

@@ -4,7 +4,7 @@ use Prim.Native.Char.{code}
 use native.Mathlib.Omega.{arith}
 use mathlib.Core.Path.{◌≡◌, refl, ap, ap₂, sym, ◌∙◌}
 use mathlib.Core.Logic.{◌⊎◌, inl, inr}
-use mathlib.Core.Bool.{Bool, true, false, cond, ◌&&◌, ◌||◌, and-eq-true_iff, false≢true}
+use mathlib.Core.Bool.{Bool, true, false, cond, ◌||◌, and-eq-true_iff}
 use mathlib.Core.List.{List, [], ◌∷◌, ◌++◌, append-nil}
 use lib.Dec.{eqb, leb}
 use lib.ListN.{length, take, drop, take-append-drop}
@@ -14,7 +14,7 @@ use Rattle.output.specs.Read.{value_from}
 use Rattle.output.proofs.TextLaws.{digit_range}
 use Rattle.output.proofs.RunLaws.{run_take, run_drop, run_all, run-append, behind-append}
 use Rattle.texts.specs.Class.{begins}
-use Rattle.scientific.specs.Decimal.{is_minus, behind_sign, behind_point, exponent_digits, exponent_ok, whole_digits, after_point, fraction_digits, exponent, is_scientific}
+use Rattle.scientific.specs.Decimal.{is_minus, behind_sign, behind_point, exponent_ok, whole_digits, after_point, fraction_digits, exponent, is_scientific}
 use Rattle.scientific.specs.Form.{IsSign, Exponent, Spelling, ReadAs, Moves, Form}
 use Rattle.scientific.proofs.ReadLaws.{or_second}
 

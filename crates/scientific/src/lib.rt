@@ -1,4 +1,6 @@
 //! Decimals as C99 reads them, with a sign, a point and an exponent or without, counted exactly in millionths.
+#![tactic(auto)]
+
 ghost use Rattle.std.specs.Prelude.{◌≡◌, true, not, cond, ◌&&◌, ◌||◌, ◌++◌, ◌+◌, ◌-◌, eqb, leb, length};
 ghost use Rattle.output.specs.Text as text;
 ghost use Rattle.output.specs.Read.{value_from};

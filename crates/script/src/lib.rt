@@ -1,4 +1,6 @@
 //! Scripts of calls: a line of a script is read, its call made on a device, and the line that answers it written (specs/Script.antt has the format).
+#![tactic(auto)]
+
 ghost use Rattle.std.specs.Prelude.{◌≡◌, ◌≤◌, min, length};
 ghost use Rattle.std.specs.Float.{binary64};
 ghost use Rattle.std.specs.Float.Ieee.{of_bits};

@@ -1,4 +1,6 @@
 //! Opening a sheet, and the check of a state that every other call begins with.
+#![tactic(auto)]
+
 ghost use Rattle.std.specs.Prelude.{◌≡◌, cond, ◌&&◌, ◌||◌, leb};
 ghost use Rattle.value.specs.Reading as readings;
 ghost use Rattle.machine.specs.Places.{all_below};

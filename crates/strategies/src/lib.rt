@@ -1,4 +1,6 @@
 //! Strategies: their words, how they are written with their parameters, and how a request's are read.
+#![tactic(auto)]
+
 ghost use Rattle.std.specs.Prelude.{◌≡◌, cond, not, [], ◌∷◌, eqb, get_or};
 ghost use Rattle.output.specs.Number.{time};
 ghost use Rattle.output.specs.Output.{output, Wrote};

@@ -1,5 +1,7 @@
 //! The console's part that can be proved: the calls that it makes before it reads a line, what an input line asks, the call that this makes, and
 //! the lines that a client is shown of a call's output.
+#![tactic(auto)]
+
 ghost use Rattle.std.specs.Prelude.{◌≡◌, cond, [], ◌+◌, ◌*◌, ◌≤◌, min};
 ghost use Rattle.output.specs.Output.{output, Wrote};
 ghost use Rattle.output.specs.Read.{read_decimal, read_integer};

@@ -1,4 +1,6 @@
 //! Texts: whether two are the same, the start of one, the class of its bytes, and tables of words. A table is one text, its words parted by bars.
+#![tactic(auto)]
+
 ghost use Rattle.std.specs.Prelude.{◌≡◌, length, take, drop};
 ghost use Rattle.output.specs.Text as text;
 ghost use Rattle.output.specs.Read.{up_to, past};

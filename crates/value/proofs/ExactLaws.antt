@@ -4,7 +4,7 @@ use native.Mathlib.Nat.{mod-one, div-add-mod', mul_assoc, mul-div_cancel, mul-mo
 use native.Mathlib.Omega.{arith}
 use mathlib.Core.Path.{◌≡◌, refl, ap, ap₂, sym, ◌∙◌, subst}
 use mathlib.Core.Logic.{◌⊎◌, inl, inr, ⊎_elim}
-use mathlib.Core.Bool.{Bool, true, false, not, cond, ◌&&◌, ◌||◌, and-eq-true_iff, false≢true}
+use mathlib.Core.Bool.{Bool, true, false, not, cond, ◌||◌, and-eq-true_iff, false≢true}
 use mathlib.Core.List.{List, [], ◌∷◌, ◌++◌, append-nil}
 use lib.Dec.{eqb, leb}
 use lib.ListN.{length, drop, length-append}
@@ -16,7 +16,7 @@ use Rattle.output.proofs.TextLaws.{digit_range}
 use Rattle.output.proofs.RunLaws.{run-append, behind-append}
 use Rattle.numbers.specs.declared.Number.{Number}
 use Rattle.numbers.specs.declared.Number.TheVariants as number
-use Rattle.scientific.specs.Decimal.{behind_sign, behind_point, is_minus, exponent_ok, raised, lowered, whole_digits, fraction_digits, digits, exponent, is_scientific, places_up, places_down, is_whole, millionths, scientific_ok}
+use Rattle.scientific.specs.Decimal.{behind_sign, behind_point, is_minus, exponent_ok, whole_digits, fraction_digits, digits, exponent, is_scientific, places_up, places_down, is_whole, millionths, scientific_ok}
 use Rattle.value.specs.declared.Parameter.{Parameter}
 use Rattle.value.specs.declared.Parameter.TheVariants.{Is, Bad}
 use Rattle.value.specs.Parameter.{whole, behind_whole, whole_ok, fraction_ok, plain_decimal, fraction, units, decimal_ok, float_difference_of}

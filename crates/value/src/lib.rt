@@ -1,5 +1,7 @@
 //! Readings and parameters: what a sensor's reading becomes as a stored number, its status and its text, and the parameters of a
 //! strategy read from their text.
+#![tactic(auto)]
+
 ghost use Rattle.std.specs.Prelude.{◌≡◌, cond, ◌*◌, ◌^◌, ◌<◌, ◌≤◌, eqb, take};
 ghost use Rattle.std.specs.Float.{binary64};
 ghost use Rattle.std.specs.Float.Ieee.{of_bits};

@@ -1,5 +1,4 @@
 -- The round's calls, on the device that was prepared.
-use borrow.Author.Rules.{rules}
 use mathlib.Core.Path.{ap}
 use Rattle.bench.specs.declared.Repeated.{Repeated}
 use Rattle.bench.specs.Runs.{measured}

@@ -1,9 +1,8 @@
 -- The check of the state that was prepared.
-use borrow.Author.Rules.{rules}
 use Rattle.bench.proofs.bench_checks.Goals as goal
 
 pub returns : goal.returns
 returns c = let p = c.prepare-state.ensures in record {
-      value = rw p.value at c.check.ensures;
-      out_after = p.out_after;
-    }
+  value = rw p.value at c.check.ensures;
+  out_after = p.out_after;
+}

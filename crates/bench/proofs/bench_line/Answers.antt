@@ -1,5 +1,4 @@
 -- The call behind the connect, on the state that opening gave.
-use borrow.Author.Rules.{rules}
 use mathlib.Core.Path.{ap, ◌∙◌}
 use mathlib.Core.Bool.{cond}
 use Rattle.machine.specs.declared.Answer.{Answer}

@@ -1,14 +1,10 @@
 -- After k turns the count is k where the sheet opens, else 0.
 use Prim.Native.Nat.{ℕ, ◌≤◌, ◌-◌}
-use mathlib.Core.Path.{◌≡◌, ap}
+use mathlib.Core.Path.{◌≡◌}
 use mathlib.Core.Bool.{Bool, cond}
 use mathlib.Core.List.{List}
-use borrow.Author.Rules.{rules}
-use native.Mathlib.Omega.{arith}
 use lib.Dec.{eqb}
-use Rattle.machine.specs.declared.Opened.{Opened}
 use Rattle.machine.specs.Opening.{start_of, opened}
-use Rattle.bench.proofs.RunLaws.{at_most_lem, none_yet, one_more}
 use Rattle.bench.proofs.bench_opens.Given as goal
 
 -- the sheet opens

@@ -1,8 +1,5 @@
 -- After k turns the count is k where the state is in range, else 0.
-use Prim.Native.Nat.{◌≤◌, ◌-◌}
 use mathlib.Core.Path.{◌≡◌}
-use mathlib.Core.Bool.{cond}
-use borrow.Author.Rules.{rules}
 use native.Mathlib.Omega.{arith}
 use Rattle.machine.specs.Range.{in_range}
 use Rattle.bench.proofs.RunLaws.{at_most_lem, none_yet, one_more}

@@ -2,10 +2,7 @@
 use Prim.Native.Nat.{◌≤◌, ◌-◌}
 use mathlib.Core.Path.{◌≡◌}
 use mathlib.Core.Bool.{cond}
-use borrow.Author.Rules.{rules}
-use native.Mathlib.Omega.{arith}
 use Rattle.machine.specs.Range.{in_range}
-use Rattle.bench.proofs.RunLaws.{at_most_lem, none_yet, one_more}
 use Rattle.bench.proofs.check.Given as goal
 
 abbrev pub invariant-loop-k : goal.invariant-loop-k

@@ -1,5 +1,4 @@
 -- By whether k is even.
-use borrow.Author.Rules.{rules}
 use borrow.Author.Tests.{eq-eqb, ne_eqb}
 use Rattle.bench.specs.Runs.{round_action}
 use Rattle.bench.proofs.connect_turn.Goals as goal

@@ -1,6 +1,5 @@
 -- By the test.
 use native.Mathlib.Omega.{arith}
-use borrow.Author.Rules.{rules}
 use Rattle.bench.proofs.counted.Goals as goal
 
 pub returns-then-counts : goal.returns-then-counts

@@ -1,5 +1,4 @@
 -- By the check.
-use borrow.Author.Rules.{rules}
 use mathlib.Core.Path.{sym, ◌∙◌}
 use Rattle.bench.proofs.judged.Goals as goal
 

@@ -1,5 +1,4 @@
 -- The device of the sheet, and then the calls that connect.
-use borrow.Author.Rules.{rules}
 use mathlib.Core.Path.{ap}
 use Rattle.bench.specs.declared.Repeated.{Repeated}
 use Rattle.bench.specs.Runs.{prepared}
@@ -8,6 +7,6 @@ use Rattle.bench.proofs.prepare.Goals as goal
 pub returns : goal.returns
 unfolding prepared
 returns c = let o = c.open-opened.ensures in let r = c.repeat-ready.ensures in record {
-      value = ap (λ (x : Repeated). x.state) (rw o at r.value);
-      out_after = rw o at r.out_after;
-    }
+  value = ap (λ (x : Repeated). x.state) (rw o at r.value);
+  out_after = rw o at r.out_after;
+}

@@ -1,11 +1,7 @@
 -- After k turns the device, the count and the output are those of k calls.
-use Prim.Native.Nat.{◌≤◌, ◌-◌}
-use mathlib.Core.Path.{◌≡◌}
-use lib.ListN.{length}
 use borrow.Author.Rules.{rules}
 use native.Mathlib.Omega.{arith}
-use Rattle.bench.specs.Runs.{begun, round_action}
-use Rattle.bench.proofs.RunLaws.{Reached, starts, goes_on_lem, ends}
+use Rattle.bench.proofs.RunLaws.{starts, goes_on_lem, ends}
 use Rattle.bench.proofs.repeat.Goals as goal
 
 pub loop-k-init : goal.loop-k-init
@@ -18,6 +14,6 @@ loop-k-preserved c = let h = c.loop-k.invariant in
 
 pub returns : goal.returns
 returns c = let all = ends (omega arith) c.loop-k.invariant.3 in record {
-      value = all.0;
-      out_after = all.1;
-    }
+  value = all.0;
+  out_after = all.1;
+}

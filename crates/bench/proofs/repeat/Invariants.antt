@@ -2,10 +2,8 @@
 use Prim.Native.Nat.{◌≤◌, ◌-◌}
 use mathlib.Core.Path.{◌≡◌}
 use lib.ListN.{length}
-use borrow.Author.Rules.{rules}
-use native.Mathlib.Omega.{arith}
 use Rattle.bench.specs.Runs.{begun, round_action}
-use Rattle.bench.proofs.RunLaws.{Reached, starts, goes_on_lem, ends}
+use Rattle.bench.proofs.RunLaws.{Reached}
 use Rattle.bench.proofs.repeat.Given as goal
 
 abbrev pub invariant-loop-k : goal.invariant-loop-k

@@ -1,5 +1,4 @@
 -- By the round.
-use borrow.Author.Rules.{rules}
 use Rattle.bench.specs.Runs.{round_action}
 use Rattle.bench.proofs.turn.Goals as goal
 

@@ -1,5 +1,4 @@
 -- By the profile.
-use borrow.Author.Rules.{rules}
 use mathlib.Core.Path.{sym, ◌∙◌}
 use Rattle.declining.proofs.above_last.Goals as goal
 

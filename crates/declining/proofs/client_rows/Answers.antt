@@ -1,5 +1,4 @@
 -- Each row by its test.
-use borrow.Author.Rules.{rules}
 use borrow.Author.Tests.{lt-ltb, le-ltb}
 use Rattle.machine.specs.Declined.{client_declined}
 use Rattle.declining.proofs.client_rows.Goals as goal

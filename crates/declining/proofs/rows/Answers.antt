@@ -1,6 +1,5 @@
 -- Each row by its test.
 use borrow.Author.Tests.{lt-ltb, le-ltb}
-use borrow.Author.Rules.{rules}
 use Rattle.declining.proofs.rows.Goals as goal
 
 pub returns-then-room-lt65536 : goal.returns-then-room-lt65536

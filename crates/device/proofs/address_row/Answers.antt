@@ -1,6 +1,5 @@
 -- The row by its test.
 use mathlib.Core.Path.{sym, ◌∙◌}
-use borrow.Author.Rules.{rules}
 use Rattle.machine.specs.Declined.{address_fits}
 use Rattle.device.proofs.address_row.Goals as goal
 

@@ -3,7 +3,6 @@ use Prim.Native.Nat.{◌≤◌, ◌<◌}
 use mathlib.Core.Path.{◌≡◌, refl, ◌∙◌}
 use lib.Dec.{eqb}
 use lib.ListN.{length}
-use borrow.Author.Rules.{rules}
 use Rattle.machine.specs.State.{with_client, client_at, blank_client}
 use Rattle.machine.specs.Declined.{Connect, action_declined, refusal}
 use Rattle.machine.specs.Machine.{perform}
@@ -35,8 +34,8 @@ returns c = let a = c.args in
     let refused = refused_by a.state.sheet.profile c.is_connected.ensures c.is_single.ensures in
     let row = c.client_rows-own.ensures ∙ client_same a.state.sheet.profile a.client refused c.address_row.ensures in
     let all =
-        one_exit a.state asked a.out.now (declined_by a.state asked a.out.now c.in_range.ensures row c.rows-number.ensures) refl refl
-        (rw c.newcomer.ensures (chosen (with_client a.state a.client) (eqb n 0) (client_at a.address.now) blank_client a.state))
-        c.greet-written.ensures
+    one_exit a.state asked a.out.now (declined_by a.state asked a.out.now c.in_range.ensures row c.rows-number.ensures) refl refl
+    (rw c.newcomer.ensures (chosen (with_client a.state a.client) (eqb n 0) (client_at a.address.now) blank_client a.state))
+    c.greet-written.ensures
     in
     rw c.with_client.ensures (record { value = all.0; out_after = all.1 })

@@ -1,7 +1,6 @@
 -- The rows are those of the call; one that none declines sends nothing and forgets its client.
 use mathlib.Core.Path.{refl, ◌∙◌, ap}
 use mathlib.Core.Bool.{not}
-use borrow.Author.Rules.{rules}
 use Rattle.message.proofs.DeliveryLaws.{none_sent}
 use Rattle.machine.specs.Declined.{Disconnect, action_declined, refusal}
 use Rattle.machine.specs.Machine.{perform}
@@ -22,7 +21,7 @@ returns c = let a = c.args in
     let asked = Disconnect a.client in
     let row = c.client_rows-own.ensures ∙ client_same a.state.sheet.profile a.client (ap not c.is_connected-refused.ensures) refl in
     let all =
-        one_exit a.state asked a.out.now (declined_by a.state asked a.out.now c.in_range.ensures row c.rows-number.ensures) refl refl
-        (rw c.blank_client.ensures) (rw cond_same none_sent)
+    one_exit a.state asked a.out.now (declined_by a.state asked a.out.now c.in_range.ensures row c.rows-number.ensures) refl refl
+    (rw c.blank_client.ensures) (rw cond_same none_sent)
     in
     rw c.with_client.ensures (record { value = all.0; out_after = all.1 })

@@ -1,10 +1,9 @@
 -- Nothing where no client is there; else the reason, as it stands in the buffer.
-use borrow.Author.Rules.{rules}
 use borrow.Author.Tests.{not-true, not-false}
 use mathlib.Core.Path.{ap, sym}
 use mathlib.Core.Bool.{not}
 use lib.Seq.{length-take-le}
-use Rattle.message.proofs.DeliveryLaws.{kept, none_sent}
+use Rattle.message.proofs.DeliveryLaws.{none_sent}
 use Rattle.device.proofs.ReasonLaws.{Reason, reason}
 use Rattle.device.proofs.displace.Goals as goal
 

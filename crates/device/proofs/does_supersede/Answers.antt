@@ -1,5 +1,4 @@
 -- The test itself.
-use borrow.Author.Rules.{rules}
 use Rattle.machine.specs.State.{supersedes}
 use Rattle.device.proofs.does_supersede.Goals as goal
 

@@ -1,5 +1,4 @@
 -- The row by its test.
-use borrow.Author.Rules.{rules}
 use Rattle.machine.specs.Declined.{entry_fits}
 use Rattle.device.proofs.entry_row.Goals as goal
 

@@ -1,7 +1,6 @@
 -- Nothing where the call is declined; under profile 1 the one that is there and the newcomer; else the versions, and then the others are told.
 use native.Mathlib.Omega.{arith}
 use mathlib.Core.Path.{sym, ◌∙◌}
-use borrow.Author.Rules.{rules}
 use borrow.Author.Tests.{ne_eqb}
 use Rattle.message.proofs.DeliveryLaws.{and, as_sent, none_sent}
 use Rattle.machine.specs.Messages.{client_connected, to_others}

@@ -1,7 +1,6 @@
 -- The one that is there is told first, then the newcomer.
 use native.Mathlib.Omega.{arith}
-use borrow.Author.Rules.{rules}
-use Rattle.message.proofs.DeliveryLaws.{and, kept}
+use Rattle.message.proofs.DeliveryLaws.{and}
 use Rattle.device.proofs.greet_single.Goals as goal
 
 pub overflow_cast-client : goal.overflow_cast-client

@@ -1,7 +1,6 @@
 -- The rows are those of the call; one that none declines sends its entry and changes nothing.
 use mathlib.Core.Path.{refl, sym}
 use lib.Dec.{eqb}
-use borrow.Author.Rules.{rules}
 use Rattle.machine.specs.Declined.{Log, action_declined, refusal}
 use Rattle.machine.specs.Machine.{entries, perform}
 use Rattle.machine.proofs.TestLaws.{cond_same}

@@ -1,5 +1,4 @@
 -- The entry to all or nothing, by the test.
-use borrow.Author.Rules.{rules}
 use Rattle.message.proofs.DeliveryLaws.{none_sent}
 use Rattle.device.proofs.put_entry.Goals as goal
 

@@ -1,7 +1,6 @@
 -- The rows are those of the call; one that none declines stores the sample and visits, unless the reading is older than the stored one.
 use Prim.Native.Nat.{◌%◌}
 use mathlib.Core.Path.{refl}
-use borrow.Author.Rules.{rules}
 use Rattle.machine.specs.declared.Cause.TheVariants.{Reading as Read}
 use Rattle.machine.specs.Declined.{arrival, Reading, refusal}
 use Rattle.machine.proofs.ArrayLaws.{readings_many}

@@ -1,5 +1,4 @@
 -- The rows before decide, or row 10 by the sample.
-use borrow.Author.Rules.{rules}
 use borrow.Author.Tests.{ne_eqb}
 use Rattle.device.proofs.sample_row.Goals as goal
 

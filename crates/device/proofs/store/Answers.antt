@@ -1,5 +1,4 @@
 -- A sample that is there is stored where the reading is newer.
-use borrow.Author.Rules.{rules}
 use Rattle.device.proofs.store.Goals as goal
 
 pub returns-in-As : goal.returns-in-As

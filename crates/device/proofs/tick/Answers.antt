@@ -1,7 +1,6 @@
 -- The rows are those of the call; one that none declines sets the clock and visits.
 use mathlib.Core.Path.{refl}
 use lib.Dec.{eqb}
-use borrow.Author.Rules.{rules}
 use borrow.Author.Tests.{ne_eqb}
 use Rattle.machine.specs.declared.Cause.TheVariants.{Tick as Ticked}
 use Rattle.machine.specs.Declined.{Tick, tick_fits, action_declined, refusal}

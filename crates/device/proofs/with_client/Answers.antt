@@ -1,5 +1,4 @@
 -- The clients with one stored anew and the subscriptions without its own, or the state as it was.
-use borrow.Author.Rules.{rules}
 use Rattle.machine.specs.State.{with_client}
 use Rattle.device.proofs.ExitLaws.{placed}
 use Rattle.device.proofs.with_client.Goals as goal

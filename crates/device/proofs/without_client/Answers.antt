@@ -1,10 +1,9 @@
 -- The invariant: the client's first j places are cleared, the others are as they were. The measure is the places that are left.
-use Prim.Native.Nat.{◌≤◌, ◌<◌, ◌-◌}
+use Prim.Native.Nat.{◌<◌}
 use native.Mathlib.Omega.{arith}
 use mathlib.Core.Path.{◌≡◌}
 use borrow.Author.Rules.{rules}
-use Rattle.machine.specs.Places.{tabulate}
-use Rattle.device.proofs.ClearLaws.{left_at, clears, cleared_none, cleared_more, cleared_all}
+use Rattle.device.proofs.ClearLaws.{clears, cleared_none, cleared_more, cleared_all}
 use Rattle.device.proofs.without_client.Goals as goal
 
 pub loop-j-init : goal.loop-j-init

@@ -1,9 +1,6 @@
 -- What is found so far, and the test of the rest, is the test of the whole.
-use borrow.Author.Rules.{rules}
 use native.Mathlib.Omega.{arith}
-use Prim.Native.Nat.{◌+◌, ◌-◌, ◌≤◌}
-use mathlib.Core.Path.{◌≡◌}
-use mathlib.Core.Bool.{◌&&◌}
+use Prim.Native.Nat.{◌+◌, ◌≤◌}
 use lib.ListN.{length, drop, drop_of_length-le}
 use Rattle.output.specs.Text.{all}
 use Rattle.texts.proofs.At.{at}

@@ -1,13 +1,9 @@
 -- What is found so far, and the test of the rest, is the test of the whole.
-use borrow.Author.Rules.{rules}
-use native.Mathlib.Omega.{arith}
-use Prim.Native.Nat.{◌+◌, ◌-◌, ◌≤◌}
+use Prim.Native.Nat.{◌-◌, ◌≤◌}
 use mathlib.Core.Path.{◌≡◌}
 use mathlib.Core.Bool.{◌&&◌}
-use lib.ListN.{length, drop, drop_of_length-le}
+use lib.ListN.{length, drop}
 use Rattle.output.specs.Text.{all}
-use Rattle.texts.proofs.At.{at}
-use Rattle.texts.proofs.PassLaws.{found_on, found_end}
 use Rattle.in_hex.specs.Hex.{is_hex}
 use Rattle.in_hex.proofs.all_hex.Given as goal
 

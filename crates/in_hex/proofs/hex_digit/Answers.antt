@@ -1,5 +1,4 @@
 -- Below ten it is a decimal digit, from there a letter.
-use borrow.Author.Rules.{rules}
 use Rattle.in_hex.proofs.HexLaws.{low_digit, high_digit}
 use Rattle.in_hex.proofs.hex_digit.Goals as goal
 

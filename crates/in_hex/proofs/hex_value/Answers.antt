@@ -1,5 +1,4 @@
 -- By the kind of the byte.
-use borrow.Author.Rules.{rules}
 use native.Mathlib.Omega.{arith}
 use mathlib.Core.Path.{sym, ◌∙◌}
 use Rattle.in_hex.proofs.HexLaws as H

@@ -1,5 +1,4 @@
 -- Both callees' contracts.
-use borrow.Author.Rules.{rules}
 use Rattle.in_hex.specs.Hex.{is_bytes}
 use Rattle.in_hex.proofs.is_bytes.Goals as goal
 

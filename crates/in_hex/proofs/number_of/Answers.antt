@@ -1,9 +1,8 @@
 -- The number so far and the digits of the rest make the number of the text, and i digits make less than 16^i.
-use borrow.Author.Rules.{rules}
 use native.Mathlib.Omega.{arith}
-use Prim.Native.Nat.{ℕ, ◌+◌, ◌*◌, ◌-◌, ◌^◌, ◌≤◌, ◌<◌}
-use mathlib.Core.Path.{◌≡◌, ap, sym, ◌∙◌}
-use lib.ListN.{length, drop}
+use Prim.Native.Nat.{ℕ, ◌+◌, ◌*◌}
+use mathlib.Core.Path.{ap, sym, ◌∙◌}
+use lib.ListN.{drop}
 use Rattle.in_hex.specs.Hex.{hex_from}
 use Rattle.in_hex.proofs.HexLaws as H
 use Rattle.in_hex.proofs.number_of.Goals as goal

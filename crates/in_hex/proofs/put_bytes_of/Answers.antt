@@ -1,11 +1,6 @@
 -- Writing the bytes of the rest gives what writing those of the whole gave at the start.
 use borrow.Author.Rules.{rules}
 use native.Mathlib.Omega.{arith}
-use Prim.Native.Nat.{◌-◌, ◌≤◌}
-use lib.ListN.{length, drop}
-use Rattle.output.specs.Output.{output}
-use Rattle.output.proofs.OutputLaws as O
-use Rattle.in_hex.specs.Hex.{bytes_of}
 use Rattle.in_hex.proofs.HexLaws as H
 use Rattle.output.proofs.RestLaws as R
 use Rattle.in_hex.proofs.put_bytes_of.Goals as goal

@@ -1,5 +1,4 @@
 -- A dash where there are no bytes.
-use borrow.Author.Rules.{rules}
 use borrow.Author.Tests.{eq-eqb, ne_eqb}
 use lib.ListN.{length}
 use Rattle.output.proofs.OutputLaws as O

@@ -1,7 +1,6 @@
 -- 16 digits, each of hex.
-use borrow.Author.Rules.{rules}
 use mathlib.Core.Path.{sym, ap, ◌∙◌}
-use borrow.Author.Tests.{eq-eqb, ne_eqb, not-true, not-false}
+use borrow.Author.Tests.{eq-eqb, ne_eqb}
 use lib.ListN.{length}
 use Rattle.in_hex.specs.declared.Bits.TheVariants.{Are}
 use Rattle.in_hex.specs.Hex.{bits_of}

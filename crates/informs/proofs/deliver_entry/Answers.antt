@@ -1,6 +1,5 @@
 -- The calls' facts in a chain.
-use borrow.Author.Rules.{rules}
-use Rattle.message.proofs.DeliveryLaws.{delivered, one, within, kept}
+use Rattle.message.proofs.DeliveryLaws.{delivered, one, within}
 use native.Mathlib.Omega.{arith}
 use Rattle.informs.proofs.deliver_entry.Goals as goal
 

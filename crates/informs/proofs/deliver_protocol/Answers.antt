@@ -1,7 +1,5 @@
 -- The version by the profile.
-use borrow.Author.Rules.{rules}
 use mathlib.Core.Path.{sym, ◌∙◌}
-use Rattle.message.proofs.DeliveryLaws.{kept}
 use Rattle.informs.proofs.deliver_protocol.Goals as goal
 
 pub returns-then-is_single : goal.returns-then-is_single

@@ -1,6 +1,5 @@
 -- The calls' facts in a chain.
-use borrow.Author.Rules.{rules}
-use Rattle.message.proofs.DeliveryLaws.{and, kept}
+use Rattle.message.proofs.DeliveryLaws.{and}
 use Rattle.informs.proofs.deliver_versions.Goals as goal
 
 pub returns : goal.returns

@@ -1,7 +1,7 @@
 -- The calls' facts in a chain.
 use borrow.Author.Rules.{rules}
 use Rattle.message.specs.Message.{write_to}
-use Rattle.output.proofs.OutputLaws.{then, same}
+use Rattle.output.proofs.OutputLaws.{then}
 use Rattle.informs.proofs.device_line.Goals as goal
 
 pub slice_bounds-put_arg_prefix-end-2 : goal.slice_bounds-put_arg_prefix-end-2

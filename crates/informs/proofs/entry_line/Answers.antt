@@ -1,7 +1,6 @@
 -- The calls' facts in a chain.
-use borrow.Author.Rules.{rules}
 use Rattle.message.specs.Message.{write_to, id_text}
-use Rattle.output.proofs.OutputLaws.{then, same}
+use Rattle.output.proofs.OutputLaws.{then}
 use Rattle.informs.proofs.entry_line.Goals as goal
 
 pub returns : goal.returns

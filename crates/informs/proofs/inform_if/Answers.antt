@@ -1,5 +1,4 @@
 -- One delivery or none, by the test.
-use borrow.Author.Rules.{rules}
 use Rattle.message.proofs.DeliveryLaws.{none_sent}
 use Rattle.informs.proofs.inform_if.Goals as goal
 

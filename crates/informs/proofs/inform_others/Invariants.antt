@@ -1,16 +1,13 @@
 -- The invariant: the clients passed have the inform. The measure is the clients that are left.
 use Prim.Native.Nat.{◌-◌}
-use native.Mathlib.Omega.{arith}
 use mathlib.Core.Bool.{not, ◌&&◌}
 use mathlib.Core.List.{[], ◌∷◌}
 use lib.Dec.{eqb}
 use lib.ListN.{get_or}
-use borrow.Author.Rules.{rules}
 use Rattle.output.specs.Output.{output}
-use Rattle.message.proofs.DeliveryLaws.{kept}
 use Rattle.machine.specs.State.{no_client}
 use Rattle.machine.specs.Messages.{inform}
-use Rattle.informs.proofs.ServedLaws.{Serving, serving, serving_on, served}
+use Rattle.informs.proofs.ServedLaws.{Serving}
 use Rattle.informs.proofs.inform_others.Given as goal
 
 abbrev pub invariant-loop-c : goal.invariant-loop-c

@@ -1,6 +1,4 @@
 -- The word at the level's place.
-use borrow.Author.Rules.{rules}
-use Rattle.output.proofs.OutputLaws.{same}
 use Rattle.texts.specs.Table.{word_of}
 use Rattle.machine.specs.Messages.{level_text}
 use Rattle.informs.proofs.put_arg_level.Goals as goal

@@ -1,5 +1,5 @@
 -- Word 0 is what stands before the first space, and word k is word k - 1 of what stands behind it.
-use Rattle.std.proofs.Common.{sym, ap, ◌∙◌, arith}
+use Rattle.std.proofs.Common.{sym, ap, ◌∙◌}
 use lib.Seq.{length-take-le}
 use Rattle.input.specs.Words.{word_at}
 use Rattle.input.proofs.SpaceLaws as space

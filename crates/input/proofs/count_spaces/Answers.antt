@@ -1,10 +1,5 @@
 -- The invariant: the spaces counted, and those from i on, are those of the line. The measure is what is left.
-use borrow.Author.Rules.{rules}
-use Prim.Native.Nat.{◌+◌, ◌-◌, ◌≤◌}
-use mathlib.Core.Path.{◌≡◌}
 use native.Mathlib.Omega.{arith}
-use lib.ListN.{length, drop}
-use Rattle.input.specs.Words.{spaces}
 use Rattle.input.proofs.SpaceLaws as space
 use Rattle.input.proofs.count_spaces.Goals as goal
 use Rattle.input.proofs.count_spaces.Goals.{then-line-i-eq32, else-line-i-eq32}
@@ -13,8 +8,8 @@ pub loop-i-preserved : goal.loop-i-preserved
 loop-i-preserved c =
     let s = c.args.line.now in
     elim c.if-line-i-eq32.branch [
-      then-line-i-eq32 w ↦ omega (arith, space.space_here s c.loop-i.i (omega arith) w.if-line-i-eq32.true)
-    | else-line-i-eq32 w ↦ omega (arith, space.space_not s c.loop-i.i (omega arith) w.if-line-i-eq32.false)
+      | then-line-i-eq32 w ↦ omega (arith, space.space_here s c.loop-i.i (omega arith) w.if-line-i-eq32.true)
+      | else-line-i-eq32 w ↦ omega (arith, space.space_not s c.loop-i.i (omega arith) w.if-line-i-eq32.false)
     ]
 
 pub returns : goal.returns

@@ -1,12 +1,8 @@
 -- The invariant: the spaces counted, and those from i on, are those of the line. The measure is what is left.
-use borrow.Author.Rules.{rules}
 use Prim.Native.Nat.{◌+◌, ◌-◌, ◌≤◌}
 use mathlib.Core.Path.{◌≡◌}
-use mathlib.Core.Logic.{⊎_elim}
-use native.Mathlib.Omega.{arith}
 use lib.ListN.{length, drop}
 use Rattle.input.specs.Words.{spaces}
-use Rattle.input.proofs.SpaceLaws as space
 use Rattle.input.proofs.count_spaces.Given as goal
 
 abbrev pub invariant-loop-i : goal.invariant-loop-i

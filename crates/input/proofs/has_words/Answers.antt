@@ -1,5 +1,4 @@
 -- The callees' contracts.
-use borrow.Author.Rules.{rules}
 use Rattle.input.specs.Words.{has_words}
 use Rattle.input.proofs.has_words.Goals as goal
 

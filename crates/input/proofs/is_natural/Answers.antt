@@ -1,5 +1,4 @@
 -- As many digits as bytes: each byte is a digit.
-use borrow.Author.Rules.{rules}
 use Rattle.input.proofs.NumberLaws as number
 use Rattle.input.proofs.is_natural.Goals as goal
 

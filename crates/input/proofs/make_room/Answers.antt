@@ -1,17 +1,16 @@
 -- The pending bytes are as many as the window has and the buffer holds. Where they fill the buffer, they are the buffer.
-use borrow.Author.Rules.{rules}
 use native.Mathlib.Omega.{arith}
 use Rattle.input.proofs.MoveLaws as move
 use Rattle.input.proofs.make_room.Goals as goal
 
 pub returns-then-n-buf : goal.returns-then-n-buf
 returns-then-n-buf c = let a = c.args in let all = move.kept_full a.buf.now a.w a.most c.least-n.result (omega arith) c.if-n-buf.true c.least.result c.least.ensures in record {
-      value = all.0;
-      buf_after = all.1;
-    }
+  value = all.0;
+  buf_after = all.1;
+}
 
 pub returns : goal.returns
 returns c = let a = c.args in let all = move.kept_moved a.buf.now a.w a.most c.least-n.result (omega arith) c.if-n-buf.false c.move_to_start.new.buf c.move_to_start.ensures in record {
-      value = all.0;
-      buf_after = all.1;
-    }
+  value = all.0;
+  buf_after = all.1;
+}

@@ -1,7 +1,5 @@
 -- The invariant: the first i bytes are moved, and those behind them stand where they stood. The measure is what is left.
-use borrow.Author.Rules.{rules}
 use Prim.Native.Nat.{◌-◌}
-use native.Mathlib.Omega.{arith}
 use Rattle.input.proofs.MoveLaws as move
 use Rattle.input.proofs.move_to_start.Given as goal
 

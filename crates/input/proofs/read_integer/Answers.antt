@@ -1,5 +1,4 @@
 -- What the machine has after each cast.
-use borrow.Author.Rules.{rules}
 use mathlib.Core.Path.{◌≡◌, sym, ◌∙◌}
 use Rattle.output.specs.Read.{read_integer}
 use Rattle.numbers.specs.declared.Number.TheVariants.{Is}

@@ -1,5 +1,4 @@
 -- All zeros, with no limits and blank options.
-use borrow.Author.Rules.{rules}
 use Rattle.layout.proofs.blank_sensor.Goals as goal
 
 pub returns : goal.returns

@@ -1,5 +1,4 @@
 -- All zeros, with blank sensors.
-use borrow.Author.Rules.{rules}
 use Rattle.layout.proofs.blank_sheet.Goals as goal
 
 pub returns : goal.returns

@@ -1,5 +1,4 @@
 -- Two texts and a sensor count, each read behind the one before, and so many sensors.
-use borrow.Author.Rules.{rules}
 use native.Mathlib.Omega.{arith}
 use mathlib.Core.Path.{ap, ◌∙◌}
 use lib.ListN.{drop}

@@ -1,5 +1,4 @@
 -- A text of at most 16 bytes, in its array.
-use borrow.Author.Rules.{rules}
 use native.Mathlib.Omega.{arith}
 use lib.ListN.{drop}
 use Rattle.machine.specs.Opening.{choice_at}

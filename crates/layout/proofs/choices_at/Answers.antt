@@ -1,12 +1,8 @@
 -- The options read so far stand at the start of the array, and the rest of the count is read behind them.
 use borrow.Author.Rules.{rules}
 use native.Mathlib.Omega.{arith}
-use Prim.Native.Nat.{◌-◌}
-use lib.ListN.{drop}
 use borrow.Author.Tests.{not-true, not-false}
-use Rattle.machine.specs.State.{blank_choice}
-use Rattle.machine.specs.Opening.{choice_at}
-use Rattle.layout.proofs.ManyLaws.{Progress, begun, fault, more}
+use Rattle.layout.proofs.ManyLaws.{begun, fault, more}
 use Rattle.layout.proofs.SensorLaws.{choices_there}
 use Rattle.layout.proofs.choices_at.Goals as goal
 

@@ -1,5 +1,4 @@
 -- Two limits, and two behind them.
-use borrow.Author.Rules.{rules}
 use mathlib.Core.Path.{sym}
 use Rattle.layout.specs.Read.{limits_of, behind}
 use Rattle.layout.proofs.TakenLaws.{told}

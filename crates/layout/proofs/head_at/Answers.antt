@@ -1,5 +1,4 @@
 -- Three texts and a byte, each read behind the one before.
-use borrow.Author.Rules.{rules}
 use native.Mathlib.Omega.{arith}
 use lib.ListN.{drop}
 use Rattle.machine.specs.Opening.{head_at}

@@ -1,5 +1,4 @@
 -- Four bytes are read where there are so many; they are an integer of type 1, and else a count of 1024ths where it is in range.
-use borrow.Author.Rules.{rules}
 use native.Mathlib.Omega.{arith}
 use Prim.Native.Nat.{◌+◌, ◌-◌, ◌≤◌}
 use mathlib.Core.Path.{◌≡◌, sym, ◌∙◌}

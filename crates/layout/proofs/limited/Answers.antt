@@ -1,5 +1,4 @@
 -- The sensor gets the limits that were read; where none could be, no sensor is read.
-use borrow.Author.Rules.{rules}
 use Rattle.layout.specs.Read.{limits_of}
 use Rattle.layout.proofs.TakenLaws.{told}
 use Rattle.layout.proofs.limited.Goals as goal

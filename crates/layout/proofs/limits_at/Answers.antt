@@ -1,5 +1,4 @@
 -- The byte says how many limits follow: none, two or four.
-use borrow.Author.Rules.{rules}
 use borrow.Author.Tests.{ne_eqb}
 use Rattle.machine.specs.Opening.{limits_at}
 use Rattle.layout.specs.Read.{byte_of}

@@ -1,5 +1,4 @@
 -- The option count is read, and so many options behind it where the array has room for them.
-use borrow.Author.Rules.{rules}
 use native.Mathlib.Omega.{arith}
 use mathlib.Core.Path.{ap, ◌∙◌}
 use Rattle.machine.specs.Opening.{options_at}

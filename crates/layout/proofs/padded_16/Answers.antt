@@ -1,5 +1,4 @@
 -- The text stands at the start, and zeros behind it.
-use borrow.Author.Rules.{rules}
 use native.Mathlib.Omega.{arith}
 use Rattle.layout.proofs.TakenLaws.{pads}
 use Rattle.layout.proofs.padded_16.Goals as goal

@@ -1,5 +1,4 @@
 -- By the type: limits, options or nothing; another type is a fault.
-use borrow.Author.Rules.{rules}
 use borrow.Author.Tests.{ne_eqb}
 use Rattle.machine.specs.Opening.{rest_at}
 use Rattle.layout.proofs.rest_at.Goals as goal

@@ -1,5 +1,4 @@
 -- The head is read, and what follows the type behind it.
-use borrow.Author.Rules.{rules}
 use mathlib.Core.Path.{sym}
 use borrow.Author.Tests.{not-true, not-false}
 use Rattle.machine.specs.Opening.{sensor_at}

@@ -1,12 +1,8 @@
 -- The sensors read so far stand at the start of the array, and the rest of the count is read behind them.
 use borrow.Author.Rules.{rules}
 use native.Mathlib.Omega.{arith}
-use Prim.Native.Nat.{◌-◌}
-use lib.ListN.{drop}
 use borrow.Author.Tests.{not-true, not-false}
-use Rattle.machine.specs.State.{blank_sensor}
-use Rattle.machine.specs.Opening.{sensor_at}
-use Rattle.layout.proofs.ManyLaws.{Progress, begun, fault, more}
+use Rattle.layout.proofs.ManyLaws.{begun, fault, more}
 use Rattle.layout.proofs.SheetLaws.{sensors_there}
 use Rattle.layout.proofs.sensors_at.Goals as goal
 

@@ -1,5 +1,4 @@
 -- The length byte is read, and so many bytes behind it where the array has room for them.
-use borrow.Author.Rules.{rules}
 use native.Mathlib.Omega.{arith}
 use mathlib.Core.Path.{◌∙◌}
 use Rattle.layout.specs.Read.{byte_of}

@@ -1,5 +1,4 @@
 -- A limit, and another behind it.
-use borrow.Author.Rules.{rules}
 use Rattle.machine.specs.Opening.{two_at}
 use Rattle.layout.specs.Read.{number_of}
 use Rattle.layout.proofs.TakenLaws.{told}

@@ -1,11 +1,7 @@
 -- Word `left` from p on is argument k of the line.
 use borrow.Author.Rules.{rules}
-use Prim.Native.Nat.{◌≤◌}
-use mathlib.Core.Path.{◌≡◌, ◌∙◌}
-use mathlib.Core.List.{[]}
+use mathlib.Core.Path.{◌∙◌}
 use native.Mathlib.Omega.{arith}
-use lib.ListN.{length, drop, get_or}
-use Rattle.line.specs.Line.{words, behind}
 use Rattle.line.proofs.WordLaws as W
 use Rattle.line.proofs.argument_word.Goals as goal
 

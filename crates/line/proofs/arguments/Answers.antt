@@ -1,9 +1,6 @@
 -- The words passed and those from p on are as many as the arguments, and those from p on are valid where all are.
 use borrow.Author.Rules.{rules}
-use borrow.Author.Tests.{not-true, not-false}
-use Prim.Native.Nat.{◌-◌}
 use mathlib.Core.Path.{sym, ◌∙◌}
-use lib.ListN.{length}
 use Rattle.line.proofs.WordLaws as W
 use Rattle.line.proofs.arguments.Goals as goal
 

@@ -1,12 +1,8 @@
 -- What the definition says of the bytes from i on, with n read so far, is what it says of the whole.
-use borrow.Author.Rules.{rules}
-use borrow.Author.Tests.{not-true, not-false}
-use Prim.Native.Nat.{◌-◌, ◌≤◌}
-use mathlib.Core.Path.{◌≡◌, sym, ◌∙◌}
+use mathlib.Core.Path.{sym, ◌∙◌}
 use native.Mathlib.Omega.{arith}
-use lib.ListN.{length, drop, get_or}
+use lib.ListN.{get_or}
 use Rattle.output.proofs.TextLaws.{digit_range}
-use Rattle.line.specs.Line.{id_from}
 use Rattle.line.proofs.IdLaws as step
 use Rattle.line.proofs.id_from.Goals as goal
 

@@ -1,5 +1,4 @@
 -- All bytes are blank where the blanks at the start are as many as the bytes.
-use borrow.Author.Rules.{rules}
 use Rattle.line.specs.Line.{blank, blank_line}
 use Rattle.output.proofs.RunLaws.{run_whole}
 use Rattle.line.proofs.is_blank.Goals as goal

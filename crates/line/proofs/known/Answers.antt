@@ -1,5 +1,4 @@
 -- Each variant is the meaning that the call gives.
-use borrow.Author.Rules.{rules}
 use mathlib.Core.Path.{ap, sym, ◌∙◌}
 use Rattle.line.specs.Line as spec
 use Rattle.line.proofs.known.Goals as goal

@@ -1,6 +1,5 @@
 -- A name that is too long, empty or starts with no letter is refused; else the identifier decides.
 use borrow.Author.Rules.{rules}
-use borrow.Author.Tests.{not-true, not-false}
 use mathlib.Core.Path.{sym, ap, ◌∙◌}
 use native.Mathlib.Omega.{arith}
 use Rattle.output.proofs.RunLaws.{run_le}

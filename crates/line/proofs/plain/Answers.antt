@@ -1,5 +1,4 @@
 -- Each byte of the table stands in an arm of its own, and the last arm is no byte of the table.
-use borrow.Author.Tests.{ne_eqb}
 use Rattle.line.specs.Line.{plain}
 use Rattle.std.proofs.Common.{arith}
 use Rattle.std.proofs.lemmas.Grind.{common_steps}

@@ -1,10 +1,7 @@
 -- The text written, and the text that the word from i on stands for, are the text of the whole.
 use borrow.Author.Rules.{rules}
-use Prim.Native.Nat.{◌-◌}
 use mathlib.Core.Path.{sym, ◌∙◌}
 use native.Mathlib.Omega.{arith}
-use lib.ListN.{length}
-use Rattle.output.specs.Output.{output}
 use Rattle.output.proofs.OutputLaws as O
 use Rattle.line.proofs.UnescapeLaws as U
 use Rattle.line.proofs.put_unescaped.Goals as goal

@@ -1,10 +1,7 @@
 -- The bytes counted, and the text that the word from i on stands for, are as long as the text of the whole.
-use borrow.Author.Rules.{rules}
-use Prim.Native.Nat.{◌+◌, ◌-◌, ◌≤◌}
-use mathlib.Core.Path.{◌≡◌, sym, ap, ◌∙◌}
+use mathlib.Core.Path.{sym, ap, ◌∙◌}
 use native.Mathlib.Omega.{arith}
-use lib.ListN.{length, drop}
-use Rattle.line.specs.Line.{unescape}
+use lib.ListN.{length}
 use Rattle.line.proofs.UnescapeLaws as U
 use Rattle.line.proofs.text_len.Goals as goal
 

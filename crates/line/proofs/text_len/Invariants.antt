@@ -1,11 +1,8 @@
 -- The bytes counted, and the text that the word from i on stands for, are as long as the text of the whole.
-use borrow.Author.Rules.{rules}
 use Prim.Native.Nat.{◌+◌, ◌-◌, ◌≤◌}
-use mathlib.Core.Path.{◌≡◌, sym, ap, ◌∙◌}
-use native.Mathlib.Omega.{arith}
+use mathlib.Core.Path.{◌≡◌}
 use lib.ListN.{length, drop}
 use Rattle.line.specs.Line.{unescape}
-use Rattle.line.proofs.UnescapeLaws as U
 use Rattle.line.proofs.text_len.Given as goal
 
 abbrev pub invariant-loop-i : goal.invariant-loop-i

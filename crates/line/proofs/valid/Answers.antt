@@ -1,11 +1,6 @@
 -- What the definition says of the word from i on is what it says of the whole.
-use borrow.Author.Rules.{rules}
-use borrow.Author.Tests.{not-true, not-false}
-use Prim.Native.Nat.{◌-◌, ◌≤◌}
-use mathlib.Core.Path.{◌≡◌, sym, ◌∙◌}
+use mathlib.Core.Path.{sym, ◌∙◌}
 use native.Mathlib.Omega.{arith}
-use lib.ListN.{length, drop}
-use Rattle.line.specs.Line.{valid}
 use Rattle.line.proofs.UnescapeLaws as U
 use Rattle.line.proofs.valid.Goals as goal
 

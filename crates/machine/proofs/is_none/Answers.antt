@@ -1,5 +1,4 @@
 -- By the strategy.
-use borrow.Author.Rules.{rules}
 use Rattle.machine.specs.Range.{is_none}
 use Rattle.machine.proofs.is_none.Goals as goal
 

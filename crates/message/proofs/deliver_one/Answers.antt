@@ -1,5 +1,4 @@
 -- The calls' facts in a chain.
-use borrow.Author.Rules.{rules}
 use Rattle.message.proofs.DeliveryLaws.{delivered, one, within, kept}
 use native.Mathlib.Omega.{arith}
 use Rattle.message.proofs.deliver_one.Goals as goal

@@ -1,7 +1,6 @@
 -- The calls' facts in a chain.
-use borrow.Author.Rules.{rules}
 use Rattle.message.specs.Message.{write_to}
-use Rattle.output.proofs.OutputLaws.{then, same}
+use Rattle.output.proofs.OutputLaws.{then}
 use Rattle.message.proofs.line_of_one.Goals as goal
 
 pub returns : goal.returns

@@ -1,7 +1,6 @@
 -- The calls' facts in a chain; the text of a number needs no escapes.
-use borrow.Author.Rules.{rules}
 use Rattle.message.proofs.MessageLaws.{arg_difference}
-use Rattle.output.proofs.OutputLaws.{then, same, said}
+use Rattle.output.proofs.OutputLaws.{then, said}
 use Rattle.message.proofs.put_arg_difference.Goals as goal
 
 pub returns : goal.returns

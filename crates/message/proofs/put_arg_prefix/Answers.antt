@@ -1,8 +1,7 @@
 -- The bytes are those of `prefix`.
-use borrow.Author.Rules.{rules}
 use mathlib.Core.Path.{ap}
 use Rattle.message.specs.Message.{arg}
-use Rattle.output.proofs.OutputLaws.{same, said}
+use Rattle.output.proofs.OutputLaws.{said}
 use Rattle.message.proofs.put_arg_prefix.Goals as goal
 
 pub returns : goal.returns

@@ -1,9 +1,8 @@
 -- One call on each way: a row of the table, or the byte itself.
 use mathlib.Core.Path.{ap, sym}
 use Rattle.message.proofs.MessageLaws.{raw}
-use borrow.Author.Rules.{rules}
 use Rattle.message.specs.Message.{escape_byte}
-use Rattle.output.proofs.OutputLaws.{same, said}
+use Rattle.output.proofs.OutputLaws.{said}
 use Rattle.message.proofs.put_escape.Goals as goal
 
 pub returns-in-92 : goal.returns-in-92

@@ -1,11 +1,7 @@
 -- The escapes of the bytes passed; an empty argument has passed none, and gets its own behind them.
 use borrow.Author.Rules.{rules}
 use native.Mathlib.Omega.{arith}
-use mathlib.Core.Path.{◌≡◌, refl}
-use Prim.Native.Nat.{◌≤◌, ◌-◌}
-use lib.ListN.{length, take}
-use Rattle.output.specs.Output.{output, Wrote}
-use Rattle.message.specs.Message.{escape_all}
+use mathlib.Core.Path.{refl}
 use Rattle.message.proofs.MessageLaws.{more, whole, empty}
 use Rattle.message.proofs.put_escaped.Goals as goal
 

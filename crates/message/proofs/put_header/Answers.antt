@@ -1,6 +1,5 @@
 -- The calls' facts in a chain.
-use borrow.Author.Rules.{rules}
-use Rattle.output.proofs.OutputLaws.{then, same}
+use Rattle.output.proofs.OutputLaws.{then}
 use Rattle.message.proofs.put_header.Goals as goal
 
 pub returns : goal.returns

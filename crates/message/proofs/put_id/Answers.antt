@@ -1,7 +1,6 @@
 -- Nothing for 0, or the calls' facts in a chain.
-use borrow.Author.Rules.{rules}
 use Rattle.message.proofs.MessageLaws.{id_none, id_some}
-use Rattle.output.proofs.OutputLaws.{then, same, blank, said}
+use Rattle.output.proofs.OutputLaws.{then, blank, said}
 use Rattle.message.proofs.put_id.Goals as goal
 
 pub returns-then-id-eq0 : goal.returns-then-id-eq0

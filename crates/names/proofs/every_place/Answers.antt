@@ -1,10 +1,8 @@
 -- The places passed are written, the others are zero.
-use borrow.Author.Rules.{rules}
-use Prim.Native.Nat.{◌-◌, ◌≤◌, min}
+use Prim.Native.Nat.{min}
 use mathlib.Core.Path.{◌≡◌, refl, sym}
-use mathlib.Core.List.{◌++◌}
 use native.Mathlib.Omega.{arith}
-use lib.ListN.{drop, replicate}
+use lib.ListN.{replicate}
 use Rattle.machine.specs.Places.{tabulate}
 use Rattle.machine.proofs.PlacesLaws.{length-tabulate}
 use Rattle.machine.proofs.StoreLaws.{filled_one}

@@ -1,14 +1,9 @@
 -- The places passed are written, the others are zero.
-use borrow.Author.Rules.{rules}
-use Prim.Native.Nat.{◌-◌, ◌≤◌, min}
-use mathlib.Core.Path.{◌≡◌, refl, sym}
+use Prim.Native.Nat.{◌-◌, ◌≤◌}
+use mathlib.Core.Path.{◌≡◌}
 use mathlib.Core.List.{◌++◌}
-use native.Mathlib.Omega.{arith}
 use lib.ListN.{drop, replicate}
 use Rattle.machine.specs.Places.{tabulate}
-use Rattle.machine.proofs.PlacesLaws.{length-tabulate}
-use Rattle.machine.proofs.StoreLaws.{filled_one}
-use Rattle.names.proofs.ListingLaws.{listing_of}
 use Rattle.names.proofs.every_place.Given as goal
 
 abbrev pub invariant-loop-j : goal.invariant-loop-j

@@ -1,12 +1,8 @@
 -- What is found is what is among the places passed.
-use borrow.Author.Rules.{rules}
-use Prim.Native.Nat.{◌-◌}
 use mathlib.Core.Path.{refl}
 use native.Mathlib.Omega.{arith}
-use lib.Dec.{eqb}
-use lib.ListN.{length}
 use Rattle.machine.specs.Places.{has}
-use Rattle.machine.proofs.FoundLaws.{Found, found_none, found_on, found_all}
+use Rattle.machine.proofs.FoundLaws.{found_none, found_on, found_all}
 use Rattle.names.proofs.is_among.Goals as goal
 
 pub loop-k-init : goal.loop-k-init

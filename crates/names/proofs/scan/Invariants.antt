@@ -1,13 +1,8 @@
 -- The names passed are known, and what is listed of them and what the rest names are what the whole names; of the sensors passed none has the
 -- name at hand.
-use borrow.Author.Rules.{rules}
-use Prim.Native.Nat.{suc, ◌+◌, ◌-◌, ◌≤◌, ◌<◌}
-use native.Mathlib.Omega.{arith}
-use mathlib.Core.Path.{◌≡◌, sym, ◌∙◌}
-use mathlib.Core.Logic.{⊎_elim}
+use Prim.Native.Nat.{suc, ◌-◌}
 use lib.ListN.{length, take, drop}
-use Rattle.names.specs.Scan.{held, place_in}
-use Rattle.names.proofs.ScanLaws.{Searching, searching, searching_on, searching_found, searching_none, Scanning, scanning, name_inside, known, scanning_on, scanning_unknown, scanning_end}
+use Rattle.names.proofs.ScanLaws.{Searching, Scanning}
 use Rattle.names.proofs.scan.Given as goal
 
 abbrev pub invariant-sensors : goal.invariant-sensors

@@ -1,5 +1,4 @@
 -- The digits of b behind those of a.
-use borrow.Author.Rules.{rules}
 use Prim.Native.Nat.{ℕ, min}
 use mathlib.Core.Path.{ap, ◌∙◌}
 use Rattle.output.specs.Read.{value_from}

@@ -1,12 +1,8 @@
 -- The invariant: the number so far and the digits of the rest make the number of the text, `most` at most. The measure is what is left.
-use Prim.Native.Nat.{ℕ, ◌+◌, ◌-◌, ◌≤◌, min}
-use mathlib.Core.Path.{◌≡◌, ap, sym, ◌∙◌}
-use native.Mathlib.Nat.{min-eq_left}
-use native.Mathlib.Omega.{arith}
-use borrow.Author.Rules.{rules}
+use Prim.Native.Nat.{◌-◌, ◌≤◌, min}
+use mathlib.Core.Path.{◌≡◌}
 use lib.ListN.{length, drop}
 use Rattle.output.specs.Read.{value_from}
-use Rattle.numbers.proofs.DigitLaws.{value_more, value_end}
 use Rattle.numbers.proofs.digits_after.Given as goal
 
 abbrev pub invariant-loop-i : goal.invariant-loop-i

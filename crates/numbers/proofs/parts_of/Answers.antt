@@ -1,6 +1,5 @@
 -- The digits on both sides of the point, without as many as stand behind it.
 use Rattle.numbers.proofs.NumberLaws as number
-use borrow.Author.Rules.{rules}
 use Rattle.numbers.proofs.parts_of.Goals as goal
 
 pub overflow_mul-all : goal.overflow_mul-all

@@ -2,7 +2,6 @@
 use native.Mathlib.Omega.{arith}
 use mathlib.Core.Path.{refl}
 use Rattle.numbers.proofs.NumberLaws as number
-use borrow.Author.Rules.{rules}
 use Rattle.numbers.proofs.read_boolean.Goals as goal
 
 pub returns : goal.returns

@@ -4,7 +4,6 @@ use native.Mathlib.Omega.{arith}
 use mathlib.Core.Path.{sym}
 use borrow.Author.Tests.{lt-ltb}
 use Rattle.numbers.proofs.NumberLaws as number
-use borrow.Author.Rules.{rules}
 use Rattle.numbers.proofs.read_decimal.Goals as goal
 
 pub returns : goal.returns

@@ -3,7 +3,6 @@ use Prim.Native.Nat.{ℕ, ◌*◌}
 use native.Mathlib.Omega.{arith}
 use mathlib.Core.Path.{ap}
 use Rattle.numbers.proofs.NumberLaws as number
-use borrow.Author.Rules.{rules}
 use Rattle.numbers.proofs.read_whole_difference.Goals as goal
 
 pub returns : goal.returns

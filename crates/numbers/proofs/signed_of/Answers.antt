@@ -1,6 +1,5 @@
 -- What stands behind the minus, or all, is counted up to the bias.
 use Rattle.numbers.proofs.NumberLaws as number
-use borrow.Author.Rules.{rules}
 use Rattle.numbers.proofs.signed_of.Goals as goal
 
 pub returns-then-t-eq0 : goal.returns-then-t-eq0

@@ -1,5 +1,4 @@
 -- The two tests.
-use borrow.Author.Rules.{rules}
 use Rattle.numbers.proofs.taken.Goals as goal
 
 pub returns-then-in_range-same : goal.returns-then-in_range-same

@@ -1,8 +1,7 @@
 -- The invariant: the number with as many zeros as turns, `most` at most. The measure is the zeros that are left.
-use Prim.Native.Nat.{ℕ, ◌-◌, ◌*◌, ◌+◌, ◌^◌, ◌≤◌, min}
+use Prim.Native.Nat.{ℕ, ◌-◌, ◌*◌, ◌+◌, ◌^◌, min}
 use mathlib.Core.Path.{◌≡◌, ap, ◌∙◌}
 use native.Mathlib.Omega.{arith}
-use borrow.Author.Rules.{rules}
 use Rattle.numbers.proofs.DigitLaws.{zero_more}
 use Rattle.numbers.proofs.with_zeros.Goals as goal
 

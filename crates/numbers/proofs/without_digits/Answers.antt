@@ -1,8 +1,7 @@
 -- The invariant: the number without as many digits as turns. The measure is the digits that are left.
-use Prim.Native.Nat.{ℕ, ◌-◌, ◌/◌, ◌^◌, ◌≤◌}
+use Prim.Native.Nat.{ℕ, ◌/◌, ◌^◌}
 use mathlib.Core.Path.{◌≡◌, ap, ◌∙◌}
 use native.Mathlib.Omega.{arith}
-use borrow.Author.Rules.{rules}
 use Rattle.numbers.proofs.DigitLaws.{digit_less}
 use Rattle.numbers.proofs.without_digits.Goals as goal
 

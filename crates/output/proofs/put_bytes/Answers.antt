@@ -1,10 +1,7 @@
 -- The bytes before i are written.
 use borrow.Author.Rules.{rules}
 use native.Mathlib.Omega.{arith}
-use mathlib.Core.Path.{◌≡◌, refl}
-use Prim.Native.Nat.{◌≤◌, ◌-◌}
-use lib.ListN.{length, take}
-use Rattle.output.specs.Output.{output, Wrote}
+use mathlib.Core.Path.{refl}
 use Rattle.output.proofs.OutputLaws.{more, whole}
 use Rattle.output.proofs.put_bytes.Goals as goal
 

@@ -1,11 +1,8 @@
 -- The bytes before i are written.
-use borrow.Author.Rules.{rules}
-use native.Mathlib.Omega.{arith}
-use mathlib.Core.Path.{◌≡◌, refl}
+use mathlib.Core.Path.{◌≡◌}
 use Prim.Native.Nat.{◌≤◌, ◌-◌}
 use lib.ListN.{length, take}
 use Rattle.output.specs.Output.{output, Wrote}
-use Rattle.output.proofs.OutputLaws.{more, whole}
 use Rattle.output.proofs.put_bytes.Given as goal
 
 abbrev pub invariant-loop-i : goal.invariant-loop-i

@@ -1,7 +1,5 @@
 -- The calls' facts in a chain.
-use borrow.Author.Rules.{rules}
 use Rattle.output.specs.Number.{difference}
-use Rattle.output.proofs.OutputLaws.{same}
 use Rattle.output.proofs.put_difference.Goals as goal
 
 pub returns : goal.returns

@@ -1,9 +1,8 @@
 -- The calls' facts in a chain.
 use native.Mathlib.Omega.{arith}
 use native.Mathlib.Nat.{mod-lt}
-use borrow.Author.Rules.{rules}
 use Rattle.output.specs.Number.{fixed}
-use Rattle.output.proofs.OutputLaws.{then, same}
+use Rattle.output.proofs.OutputLaws.{then}
 use Rattle.output.proofs.put_fixed.Goals as goal
 
 pub put_fraction-requires : goal.put_fraction-requires

@@ -1,9 +1,8 @@
 -- The calls' facts in a chain, on each way.
-use borrow.Author.Rules.{rules}
 use Prim.Native.Nat.{◌^◌}
 use Rattle.output.specs.Number.{integer, decimal}
 use Rattle.output.proofs.NumberLaws.{signed_below, signed_above}
-use Rattle.output.proofs.OutputLaws.{then, same, said}
+use Rattle.output.proofs.OutputLaws.{then, said}
 use Rattle.output.proofs.put_integer.Goals as goal
 
 pub returns-then-v-lt-INTEGER_ZERO : goal.returns-then-v-lt-INTEGER_ZERO

@@ -1,7 +1,6 @@
 -- A sequence of writers: the calls' facts in a chain.
-use borrow.Author.Rules.{rules}
 use Rattle.output.specs.Number.{time}
-use Rattle.output.proofs.OutputLaws.{then, same}
+use Rattle.output.proofs.OutputLaws.{then}
 use Rattle.output.proofs.put_time.Goals as goal
 
 pub returns : goal.returns

@@ -1,7 +1,5 @@
 -- The calls' facts in a chain.
-use borrow.Author.Rules.{rules}
 use Rattle.output.specs.Number.{whole_difference}
-use Rattle.output.proofs.OutputLaws.{same}
 use Rattle.output.proofs.put_whole_difference.Goals as goal
 
 pub returns : goal.returns

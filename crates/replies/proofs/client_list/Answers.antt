@@ -1,7 +1,6 @@
 -- The informs, then the reply with their count.
 use mathlib.Core.Path.{sym, ◌∙◌}
 use lib.ListN.{length-map}
-use borrow.Author.Rules.{rules}
 use Rattle.machine.specs.Messages.{client_inform}
 use Rattle.machine.specs.Requests.{addresses_below}
 use Rattle.replies.proofs.ToldLaws.{counted}

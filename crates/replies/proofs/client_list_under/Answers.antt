@@ -1,5 +1,4 @@
 -- By the profile.
-use borrow.Author.Rules.{rules}
 use mathlib.Core.Path.{sym, ◌∙◌}
 use Rattle.machine.specs.Requests.{hidden}
 use Rattle.replies.proofs.client_list_under.Goals as goal

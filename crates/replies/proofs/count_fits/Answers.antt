@@ -1,5 +1,4 @@
 -- By the request.
-use borrow.Author.Rules.{rules}
 use Rattle.machine.specs.Declined.{count_fits}
 use Rattle.replies.proofs.count_fits.Goals as goal
 

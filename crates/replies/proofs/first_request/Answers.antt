@@ -1,5 +1,4 @@
 -- By the profile.
-use borrow.Author.Rules.{rules}
 use mathlib.Core.Path.{sym, ◌∙◌}
 use Rattle.replies.proofs.first_request.Goals as goal
 

@@ -1,6 +1,5 @@
 -- The informs, then the reply with their count.
 use mathlib.Core.Path.{refl}
-use borrow.Author.Rules.{rules}
 use Rattle.machine.specs.Requests.{shown_rows}
 use Rattle.replies.proofs.ToldLaws.{counted, counted_rows}
 use Rattle.replies.proofs.help.Goals as goal

@@ -1,5 +1,4 @@
 -- The calls' facts in a chain.
-use borrow.Author.Rules.{rules}
 use mathlib.Core.List.{[], ◌∷◌}
 use Rattle.output.proofs.OutputLaws.{then, said}
 use Rattle.replies.specs.Asking.{asking}

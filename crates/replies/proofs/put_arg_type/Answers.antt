@@ -1,8 +1,6 @@
 -- Each arm writes the word that `type_text` has for its number.
-use borrow.Author.Rules.{rules}
 use lib.ListN.{get_or-eq_default}
 use Rattle.output.specs.Text.{text}
-use Rattle.output.proofs.OutputLaws.{same}
 use Rattle.output.proofs.TableLaws.{past_all}
 use Rattle.machine.specs.Messages.{type_text}
 use Rattle.replies.proofs.put_arg_type.Goals as goal

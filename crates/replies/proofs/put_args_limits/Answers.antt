@@ -1,6 +1,5 @@
 -- No numbers, two or four, by the count.
 use mathlib.Core.List.{[], ◌∷◌}
-use borrow.Author.Rules.{rules}
 use borrow.Author.Tests.{eq-eqb, ne_eqb}
 use Rattle.output.proofs.OutputLaws.{blank}
 use Rattle.machine.specs.Messages.{limit_numbers}

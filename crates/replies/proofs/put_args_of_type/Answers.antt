@@ -1,5 +1,4 @@
 -- By the type.
-use borrow.Author.Rules.{rules}
 use Rattle.machine.specs.Messages.{type_args}
 use Rattle.replies.proofs.put_args_of_type.Goals as goal
 

@@ -1,15 +1,10 @@
 -- The invariant: the options passed are written. The measure is the options that are left.
 use Prim.Native.Nat.{◌-◌, ◌≤◌}
-use native.Mathlib.Omega.{arith}
-use mathlib.Core.Path.{◌≡◌}
 use mathlib.Core.List.{[]}
-use borrow.Author.Rules.{rules}
 use Rattle.output.specs.Output.{output, Wrote}
-use Rattle.output.proofs.OutputLaws.{same}
 use Rattle.message.specs.Message.{args_text}
 use Rattle.machine.specs.Places.{tabulate}
 use Rattle.machine.specs.Sheet.{option_of}
-use Rattle.replies.proofs.LineLaws.{next_arg}
 use Rattle.replies.proofs.put_args_options.Given as goal
 
 abbrev pub invariant-loop-k : goal.invariant-loop-k

@@ -1,5 +1,4 @@
 -- The calls' facts in a chain.
-use borrow.Author.Rules.{rules}
 use mathlib.Core.List.{append-nil}
 use Rattle.message.specs.Message.{write_to}
 use Rattle.output.proofs.OutputLaws.{then}

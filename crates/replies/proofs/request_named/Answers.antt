@@ -1,5 +1,4 @@
 -- The place of the name in the table of requests, by its arm.
-use borrow.Author.Rules.{rules}
 use mathlib.Core.Path.{◌∙◌}
 use Rattle.machine.specs.Requests.{hidden}
 use Rattle.replies.proofs.RequestTable.{by_place, no_place}

@@ -3,7 +3,7 @@ use mathlib.Core.List.{[], ◌∷◌}
 use borrow.Author.Rules.{rules}
 use Rattle.message.specs.Message.{write_to}
 use Rattle.machine.specs.Messages.{sensor_inform, type_args}
-use Rattle.output.proofs.OutputLaws.{then, same}
+use Rattle.output.proofs.OutputLaws.{then}
 use Rattle.replies.proofs.LineLaws.{args_ended}
 use Rattle.replies.proofs.sensor_line.Goals as goal
 

@@ -2,7 +2,6 @@
 use mathlib.Core.Path.{refl}
 use native.Mathlib.Omega.{arith}
 use borrow.Author.Tests.{not-true, not-false}
-use borrow.Author.Rules.{rules}
 use Rattle.message.proofs.DeliveryLaws.{none_sent}
 use Rattle.replies.proofs.tell_client.Goals as goal
 

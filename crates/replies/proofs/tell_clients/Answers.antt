@@ -1,10 +1,7 @@
 -- The invariant: the clients passed are told of. The measure is the clients that are left.
-use Prim.Native.Nat.{◌-◌}
 use native.Mathlib.Omega.{arith}
 use borrow.Author.Rules.{rules}
-use Rattle.output.specs.Output.{output}
-use Rattle.message.proofs.DeliveryLaws.{kept}
-use Rattle.replies.proofs.ToldLaws.{Telling, telling, telling_on, few, told}
+use Rattle.replies.proofs.ToldLaws.{telling, telling_on, few, told}
 use Rattle.replies.proofs.tell_clients.Goals as goal
 
 pub loop-c-init : goal.loop-c-init
@@ -18,6 +15,6 @@ loop-c-preserved c = search (telling_on, rules)
 
 pub returns : goal.returns
 returns c = let all = told c.loop-c.invariant (omega arith) in record {
-      sent = all.0;
-      count_value = all.1;
-    }
+  sent = all.0;
+  count_value = all.1;
+}

@@ -1,10 +1,7 @@
 -- The invariant: the clients passed are told of. The measure is the clients that are left.
 use Prim.Native.Nat.{◌-◌}
-use native.Mathlib.Omega.{arith}
-use borrow.Author.Rules.{rules}
 use Rattle.output.specs.Output.{output}
-use Rattle.message.proofs.DeliveryLaws.{kept}
-use Rattle.replies.proofs.ToldLaws.{Telling, telling, telling_on, few, told}
+use Rattle.replies.proofs.ToldLaws.{Telling}
 use Rattle.replies.proofs.tell_clients.Given as goal
 
 abbrev pub invariant-loop-c : goal.invariant-loop-c

@@ -1,11 +1,7 @@
 -- Each turn tells of the next request of the table.
-use borrow.Author.Rules.{rules}
-use Prim.Native.Nat.{◌-◌}
 use native.Mathlib.Omega.{arith}
-use Rattle.output.specs.Output.{output}
 use Rattle.machine.specs.Sheet.{single}
-use Rattle.message.proofs.DeliveryLaws.{kept}
-use Rattle.replies.proofs.RequestTable.{Helping, helping, helping_on, helped}
+use Rattle.replies.proofs.RequestTable.{helping, helping_on, helped}
 use Rattle.replies.proofs.tell_requests.Goals as goal
 
 pub loop-k-init : goal.loop-k-init
@@ -19,6 +15,6 @@ overflow_sub-result c = c.loop-k.invariant.from
 
 pub returns : goal.returns
 returns c = let all = helped c.loop-k.invariant _ c.first_request-first.ensures (omega arith) in record {
-      sent = all.0;
-      count_value = all.1;
-    }
+  sent = all.0;
+  count_value = all.1;
+}

@@ -1,11 +1,7 @@
 -- Each turn tells of the next request of the table.
-use borrow.Author.Rules.{rules}
 use Prim.Native.Nat.{◌-◌}
-use native.Mathlib.Omega.{arith}
 use Rattle.output.specs.Output.{output}
-use Rattle.machine.specs.Sheet.{single}
-use Rattle.message.proofs.DeliveryLaws.{kept}
-use Rattle.replies.proofs.RequestTable.{Helping, helping, helping_on, helped}
+use Rattle.replies.proofs.RequestTable.{Helping}
 use Rattle.replies.proofs.tell_requests.Given as goal
 
 abbrev pub invariant-loop-k : goal.invariant-loop-k

@@ -1,5 +1,4 @@
 -- By what the line is: no message, an inform, a reply, a request.
-use borrow.Author.Rules.{rules}
 use mathlib.Core.Path.{ap, sym, ◌∙◌}
 use Rattle.line.specs.Line.{Parse, parse}
 use Rattle.machine.specs.Requests.{asked_by}

@@ -1,5 +1,4 @@
 -- Unknown, declined, or carried out: each is what the line comes to.
-use borrow.Author.Rules.{rules}
 use Prim.Native.Nat.{ℕ}
 use mathlib.Core.Path.{◌≡◌, ap, sym, ◌∙◌}
 use mathlib.Core.List.{List}

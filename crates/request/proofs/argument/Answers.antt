@@ -1,6 +1,5 @@
 -- The text of an argument is no longer than its line, so it fits.
 use Rattle.request.proofs.RowLaws.{copied_never, copied_argument}
-use borrow.Author.Rules.{rules}
 use Rattle.request.proofs.argument.Goals as goal
 
 pub returns-in_default : goal.returns-in_default

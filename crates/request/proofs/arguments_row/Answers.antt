@@ -1,6 +1,5 @@
 -- By the request; the rows of help and log-level look at no sheet.
 use Rattle.machine.specs.Declined.{arguments_declined}
-use borrow.Author.Rules.{rules}
 use Rattle.request.proofs.arguments_row.Goals as goal
 
 pub returns-in-ClientList : goal.returns-in-ClientList

@@ -1,5 +1,4 @@
 -- By the request.
-use borrow.Author.Rules.{rules}
 use Rattle.request.proofs.carry_out.Goals as goal
 
 pub sensor_list-requires : goal.sensor_list-requires

@@ -1,7 +1,6 @@
 -- The reply of crate replies, under the name and id of the line; the state is kept.
 use mathlib.Core.Path.{refl}
 use mathlib.Core.List.{map}
-use borrow.Author.Rules.{rules}
 use Rattle.machine.specs.Messages.{client_inform}
 use Rattle.machine.specs.Requests.{addresses, answer}
 use Rattle.request.proofs.TellLaws.{tells}

@@ -1,5 +1,4 @@
 -- The reply, under the name and id of the line, then the informs to all; the state is emptied.
-use borrow.Author.Rules.{rules}
 use Rattle.request.proofs.TellLaws.{ends}
 use Rattle.request.proofs.end_all.Goals as goal
 

@@ -1,5 +1,4 @@
 -- The connections end, with the level kept.
-use borrow.Author.Rules.{rules}
 use Rattle.machine.specs.Requests.{answer}
 use Rattle.request.proofs.halt.Goals as goal
 

@@ -1,9 +1,6 @@
 -- The reply of crate replies, under the name and id of the line, on its argument or on all; the state is kept.
-use native.Mathlib.Omega.{arith}
-use mathlib.Core.Path.{refl, ap, sym}
+use mathlib.Core.Path.{refl, ap}
 use mathlib.Core.List.{map}
-use lib.Seq.{length-take-le}
-use borrow.Author.Rules.{rules}
 use Rattle.machine.specs.Messages.{help_inform}
 use Rattle.machine.specs.Requests.{help_names, answer}
 use Rattle.request.specs.Reading.{message_of}

@@ -1,9 +1,7 @@
 -- A name is looked up only where one is given.
-use mathlib.Core.Path.{refl, sym}
-use lib.Seq.{length-take-le}
+use mathlib.Core.Path.{refl}
 use Rattle.request.proofs.ReadLaws.{short}
 use Rattle.request.proofs.RowLaws.{help_all, help_named}
-use borrow.Author.Rules.{rules}
 use Rattle.request.proofs.help_row.Goals as goal
 
 pub returns-then-head-eq0 : goal.returns-then-head-eq0

@@ -1,9 +1,7 @@
 -- A word is looked up only where one is given.
-use mathlib.Core.Path.{refl, sym}
-use lib.Seq.{length-take-le}
+use mathlib.Core.Path.{refl}
 use Rattle.request.proofs.ReadLaws.{short}
 use Rattle.request.proofs.RowLaws.{level_kept, level_named}
-use borrow.Author.Rules.{rules}
 use Rattle.request.proofs.level_asked.Goals as goal
 
 pub returns-then-head-eq0 : goal.returns-then-head-eq0

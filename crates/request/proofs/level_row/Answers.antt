@@ -1,7 +1,6 @@
 -- A line without a level counts as one with level 0.
 use Rattle.request.specs.Reading.{message_of}
 use Rattle.request.proofs.RowLaws.{level_known, level_unknown}
-use borrow.Author.Rules.{rules}
 use Rattle.request.proofs.level_row.Goals as goal
 
 pub returns-then-level_asked-lt8 : goal.returns-then-level_asked-lt8

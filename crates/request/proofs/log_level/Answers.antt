@@ -1,6 +1,5 @@
 -- The reply, under the name and id of the line; the level is the one that it tells.
 use mathlib.Core.List.{[], ◌∷◌}
-use borrow.Author.Rules.{rules}
 use Rattle.output.specs.Text.{text}
 use Rattle.machine.specs.State.{with_level}
 use Rattle.machine.specs.Messages.{level_text}

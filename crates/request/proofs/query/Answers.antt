@@ -2,7 +2,6 @@
 use mathlib.Core.Path.{refl}
 use Rattle.machine.specs.Messages.{sampling_reply}
 use Rattle.request.proofs.GivenLaws.{answered_is}
-use borrow.Author.Rules.{rules}
 use Rattle.request.proofs.query.Goals as goal
 
 pub returns : goal.returns

@@ -3,7 +3,6 @@ use mathlib.Core.Path.{refl, ◌∙◌}
 use Rattle.request.specs.Reading.{message_of}
 use Rattle.request.proofs.ReadLaws.{name_is, id_is}
 use Rattle.request.proofs.RefusalLaws.{refused_for}
-use borrow.Author.Rules.{rules}
 use Rattle.request.proofs.refuse.Goals as goal
 
 pub returns : goal.returns

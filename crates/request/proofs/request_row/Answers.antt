@@ -5,7 +5,6 @@ use Rattle.machine.specs.Declined.{count_fits}
 use Rattle.request.specs.Reading.{message_of}
 use Rattle.request.proofs.ReadLaws.{count_is}
 use Rattle.request.proofs.RowLaws.{count_declined, count_fitting}
-use borrow.Author.Rules.{rules}
 use Rattle.request.proofs.request_row.Goals as goal
 
 pub returns-then-not-count_fits : goal.returns-then-not-count_fits

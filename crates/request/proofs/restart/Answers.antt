@@ -1,5 +1,4 @@
 -- The connections end, with the level of a fresh device.
-use borrow.Author.Rules.{rules}
 use Rattle.machine.specs.Requests.{answer}
 use Rattle.request.proofs.restart.Goals as goal
 

@@ -1,5 +1,4 @@
 -- No row declines the list, so it is that of the places asked for; each is told of, and the reply counts them.
-use borrow.Author.Rules.{rules}
 use Rattle.machine.specs.Sheet.{sensor_of}
 use Rattle.machine.specs.Messages.{sensor_inform}
 use Rattle.machine.specs.Requests.{answer}

@@ -1,11 +1,7 @@
 -- The names give the places, the arguments behind them the strategy, and no row declines either.
-use native.Mathlib.Omega.{arith}
-use mathlib.Core.Path.{◌≡◌, refl, sym}
-use lib.ListN.{length}
-use lib.Seq.{length-take-le}
+use mathlib.Core.Path.{refl}
 use Rattle.request.proofs.ReadLaws.{short}
 use Rattle.request.proofs.SampledLaws.{Scan, scan_is, queried, set_to}
-use borrow.Author.Rules.{rules}
 use Rattle.request.proofs.sensor_sampling.Goals as goal
 
 pub argument-len-requires : goal.argument-len-requires

@@ -1,10 +1,8 @@
 -- The first argument is the comma list.
-use mathlib.Core.Path.{refl, ap, sym, ◌∙◌}
-use lib.Seq.{length-take-le}
+use mathlib.Core.Path.{refl, ap, ◌∙◌}
 use Rattle.names.specs.Scan.{scanned}
 use Rattle.request.proofs.ReadLaws.{short}
 use Rattle.request.proofs.RowLaws.{listed_asked}
-use borrow.Author.Rules.{rules}
 use Rattle.request.proofs.sensors_listed.Goals as goal
 
 pub argument-n-requires : goal.argument-n-requires

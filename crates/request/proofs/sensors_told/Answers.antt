@@ -3,7 +3,6 @@ use mathlib.Core.Path.{ap, ◌∙◌}
 use Rattle.names.specs.Scan.{scanned}
 use Rattle.names.proofs.SheetPlaces.{every_is}
 use Rattle.request.proofs.RowLaws.{all_asked, list_asked}
-use borrow.Author.Rules.{rules}
 use Rattle.request.proofs.sensors_told.Goals as goal
 
 pub returns-then-head-eq0 : goal.returns-then-head-eq0

@@ -1,11 +1,7 @@
 -- The invariant: the first k places are set. The measure is the places that are left.
-use Prim.Native.Nat.{◌-◌, ◌<◌}
-use native.Mathlib.Omega.{arith}
-use lib.ListN.{length, get_or}
-use borrow.Author.Rules.{rules}
-use Rattle.machine.proofs.ArrayLaws.{subscriptions_many}
-use Rattle.request.proofs.PassLaws.{each_at}
-use Rattle.request.proofs.SetLaws.{SetTo, set-none, set_on, set_all}
+use Prim.Native.Nat.{◌-◌}
+use lib.ListN.{length}
+use Rattle.request.proofs.SetLaws.{SetTo}
 use Rattle.request.proofs.set_all.Given as goal
 
 abbrev pub invariant-loop-k : goal.invariant-loop-k

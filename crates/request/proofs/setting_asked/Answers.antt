@@ -1,9 +1,7 @@
 -- The three texts are the arguments behind the strategy's word.
-use mathlib.Core.Path.{refl, sym, ◌∙◌}
-use lib.Seq.{length-take-le}
+use mathlib.Core.Path.{refl, ◌∙◌}
 use Rattle.request.proofs.ReadLaws.{short}
 use Rattle.request.proofs.RowLaws.{setting_asked}
-use borrow.Author.Rules.{rules}
 use Rattle.request.proofs.setting_asked.Goals as goal
 
 pub argument-w-requires : goal.argument-w-requires

@@ -1,13 +1,8 @@
 -- The invariant: the reports of the first k places were sent. The measure is the places that are left.
-use Prim.Native.Nat.{◌-◌, ◌<◌}
-use native.Mathlib.Omega.{arith}
-use lib.ListN.{length, get_or}
+use Prim.Native.Nat.{◌<◌}
+use lib.ListN.{get_or}
 use borrow.Author.Rules.{rules}
-use Rattle.output.specs.Output.{output}
-use Rattle.message.specs.Delivery.{to}
-use Rattle.message.proofs.DeliveryLaws.{kept}
-use Rattle.machine.specs.Messages.{report_of}
-use Rattle.request.proofs.PassLaws.{each_at, Passed, passed_none, passed_on, passed_all}
+use Rattle.request.proofs.PassLaws.{each_at, passed_none, passed_on, passed_all}
 use Rattle.request.proofs.tell_reports.Goals as goal
 
 pub loop-k-init : goal.loop-k-init

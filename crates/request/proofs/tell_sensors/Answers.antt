@@ -1,16 +1,15 @@
 -- The invariant: the places passed are told of. The measure is the places that are left.
-use Prim.Native.Nat.{◌<◌, ◌-◌}
+use Prim.Native.Nat.{◌<◌}
 use native.Mathlib.Omega.{arith}
 use mathlib.Core.Path.{sym}
 use mathlib.Core.List.{map-map}
-use lib.ListN.{length, get_or}
+use lib.ListN.{get_or}
 use borrow.Author.Rules.{rules}
-use Rattle.output.specs.Output.{output}
 use Rattle.message.specs.Delivery.{to}
-use Rattle.message.proofs.DeliveryLaws.{as_sent, kept}
+use Rattle.message.proofs.DeliveryLaws.{as_sent}
 use Rattle.machine.specs.Sheet.{sensor_of}
 use Rattle.machine.specs.Messages.{sensor_inform}
-use Rattle.request.proofs.PassLaws.{Passed, each_at, passed_none, passed_on, passed_all}
+use Rattle.request.proofs.PassLaws.{each_at, passed_none, passed_on, passed_all}
 use Rattle.request.proofs.tell_sensors.Goals as goal
 
 pub loop-k-init : goal.loop-k-init

@@ -2,7 +2,6 @@
 use mathlib.Core.Path.{sym, ◌∙◌}
 use Rattle.message.proofs.DeliveryLaws.{none_sent, as_sent}
 use Rattle.machine.proofs.TestLaws.{cond_true, cond_false}
-use borrow.Author.Rules.{rules}
 use Rattle.request.proofs.tell_set.Goals as goal
 
 pub returns-then-is_none : goal.returns-then-is_none

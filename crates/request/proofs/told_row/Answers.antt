@@ -4,7 +4,6 @@ use Rattle.machine.specs.Requests.{asked_places}
 use Rattle.names.specs.declared.Listed.{Listed}
 use Rattle.names.proofs.SheetPlaces.{scanned_number}
 use Rattle.request.specs.Reading.{message_of}
-use borrow.Author.Rules.{rules}
 use Rattle.request.proofs.told_row.Goals as goal
 
 pub returns : goal.returns

@@ -1,6 +1,5 @@
 -- The reply, under the name and id of the line; the state is kept.
 use mathlib.Core.List.{[], ◌∷◌}
-use borrow.Author.Rules.{rules}
 use Rattle.output.specs.Text.{text}
 use Rattle.machine.specs.Requests.{answer}
 use Rattle.request.proofs.TellLaws.{replies}

@@ -1,5 +1,4 @@
 -- The tests are those of the definition.
-use borrow.Author.Rules.{rules}
 use Rattle.rules.proofs.alike_texts.Goals as goal
 
 pub returns : goal.returns

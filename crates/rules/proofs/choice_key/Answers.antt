@@ -1,5 +1,4 @@
 -- By its half.
-use borrow.Author.Rules.{rules}
 use Rattle.rules.specs.Keys.{choice_key}
 use Rattle.rules.proofs.choice_key.Goals as goal
 

@@ -1,10 +1,9 @@
 -- The invariant: the keys passed are those of the options. After the loop k is 8.
-use Prim.Native.Nat.{ℕ, ◌≤◌, ◌-◌}
+use Prim.Native.Nat.{ℕ}
 use native.Mathlib.Omega.{arith}
 use mathlib.Core.Path.{◌≡◌, refl}
-use mathlib.Core.List.{List, ◌++◌}
-use lib.ListN.{get_or, drop, replicate}
-use borrow.Author.Rules.{rules}
+use mathlib.Core.List.{List}
+use lib.ListN.{get_or, replicate}
 use Rattle.machine.specs.declared.Choice.{Choice}
 use Rattle.machine.specs.Places.{tabulate}
 use Rattle.machine.specs.Sheet.{no_choice}

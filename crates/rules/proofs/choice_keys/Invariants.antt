@@ -1,15 +1,12 @@
 -- The invariant: the keys passed are those of the options. After the loop k is 8.
 use Prim.Native.Nat.{ℕ, ◌≤◌, ◌-◌}
-use native.Mathlib.Omega.{arith}
-use mathlib.Core.Path.{◌≡◌, refl}
+use mathlib.Core.Path.{◌≡◌}
 use mathlib.Core.List.{List, ◌++◌}
 use lib.ListN.{get_or, drop, replicate}
-use borrow.Author.Rules.{rules}
 use Rattle.machine.specs.declared.Choice.{Choice}
 use Rattle.machine.specs.Places.{tabulate}
 use Rattle.machine.specs.Sheet.{no_choice}
-use Rattle.machine.proofs.StoreLaws.{filled_one}
-use Rattle.rules.specs.Keys.{choice_key, choice_keys}
+use Rattle.rules.specs.Keys.{choice_key}
 use Rattle.rules.proofs.choice_keys.Given as goal
 
 -- the key at a place

@@ -1,6 +1,5 @@
 -- Where the keys of the options stand once each, the options are apart.
 use mathlib.Core.Path.{sym, ◌∙◌}
-use borrow.Author.Rules.{rules}
 use Rattle.rules.proofs.KeyLaws.{choices_by_keys}
 use Rattle.rules.proofs.choices_apart.Goals as goal
 

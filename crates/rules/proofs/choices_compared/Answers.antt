@@ -1,11 +1,9 @@
 -- The invariant: what is found is that no pair below q is alike. After the loop q is 64. The lengths of the texts are those of the array's elements.
-use Prim.Native.Nat.{◌≤◌, ◌-◌}
 use native.Mathlib.Numerals.{add-one}
 use native.Mathlib.Omega.{arith}
 use mathlib.Core.Path.{◌≡◌, refl, sym}
-use borrow.Author.Rules.{rules}
 use Rattle.machine.specs.Places.{all_below}
-use Rattle.rules.specs.Apart.{apart_at, choices_alike, choices_apart}
+use Rattle.rules.specs.Apart.{apart_at, choices_apart}
 use Rattle.rules.proofs.ElementLaws.{choices_long}
 use Rattle.rules.proofs.choices_compared.Goals as goal
 

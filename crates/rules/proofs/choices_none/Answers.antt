@@ -1,12 +1,8 @@
 -- The invariant: what is found is the test of each place below k. After the loop k is 8.
-use Prim.Native.Nat.{◌≤◌, ◌-◌}
 use native.Mathlib.Numerals.{add-one}
 use native.Mathlib.Omega.{arith}
 use mathlib.Core.Path.{◌≡◌, refl}
-use lib.ListN.{get_or}
-use borrow.Author.Rules.{rules}
 use Rattle.machine.specs.Places.{all_below}
-use Rattle.machine.specs.Sheet.{no_choice, choice_none}
 use Rattle.rules.proofs.choices_none.Goals as goal
 
 pub loop-k-init : goal.loop-k-init

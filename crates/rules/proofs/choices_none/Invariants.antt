@@ -1,10 +1,7 @@
 -- The invariant: what is found is the test of each place below k. After the loop k is 8.
 use Prim.Native.Nat.{◌≤◌, ◌-◌}
-use native.Mathlib.Numerals.{add-one}
-use native.Mathlib.Omega.{arith}
-use mathlib.Core.Path.{◌≡◌, refl}
+use mathlib.Core.Path.{◌≡◌}
 use lib.ListN.{get_or}
-use borrow.Author.Rules.{rules}
 use Rattle.machine.specs.Places.{all_below}
 use Rattle.machine.specs.Sheet.{no_choice, choice_none}
 use Rattle.rules.proofs.choices_none.Given as goal

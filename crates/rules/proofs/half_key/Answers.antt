@@ -1,6 +1,5 @@
 -- The four quarters are below 2^32 each.
 use native.Mathlib.Omega.{arith}
-use borrow.Author.Rules.{rules}
 use Rattle.rules.specs.Keys.{half_key}
 use Rattle.rules.proofs.half_key.Goals as goal
 

@@ -1,5 +1,4 @@
 -- The variant names the test.
-use borrow.Author.Rules.{rules}
 use Rattle.machine.specs.Sheet.{graphic, printable}
 use Rattle.machine.specs.Declined.{entry_byte}
 use Rattle.rules.proofs.in_charset.Goals as goal

@@ -1,13 +1,10 @@
 -- The invariant: each of the keys passed stands once. The measure is the places that are left.
 use Prim.Native.Nat.{◌≤◌, ◌-◌}
-use native.Mathlib.Numerals.{add-one}
-use native.Mathlib.Omega.{arith}
-use mathlib.Core.Path.{◌≡◌, refl}
+use mathlib.Core.Path.{◌≡◌}
 use lib.Dec.{eqb}
 use lib.ListN.{get_or}
-use borrow.Author.Rules.{rules}
 use Rattle.machine.specs.Places.{all_below}
-use Rattle.rules.specs.Keys.{how_many, keys_apart}
+use Rattle.rules.specs.Keys.{how_many}
 use Rattle.rules.proofs.keys_apart.Given as goal
 
 abbrev pub invariant-loop-j : goal.invariant-loop-j

@@ -1,5 +1,4 @@
 -- By the branch.
-use borrow.Author.Rules.{rules}
 use Rattle.rules.proofs.limits_at.Goals as goal
 
 pub returns-then-there : goal.returns-then-there

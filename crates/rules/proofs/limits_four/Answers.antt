@@ -1,5 +1,4 @@
 -- The tests are those of the definition, and each limit's is its function's.
-use borrow.Author.Rules.{rules}
 use Rattle.machine.specs.Sheet.{limits_four}
 use Rattle.rules.proofs.limits_four.Goals as goal
 

@@ -1,5 +1,4 @@
 -- The three ways are those of the definition.
-use borrow.Author.Rules.{rules}
 use Rattle.machine.specs.Sheet.{limits_ok}
 use Rattle.rules.proofs.limits_ok.Goals as goal
 

@@ -1,5 +1,4 @@
 -- By its halves.
-use borrow.Author.Rules.{rules}
 use Rattle.rules.specs.Keys.{name_key}
 use Rattle.rules.proofs.name_key.Goals as goal
 

@@ -1,12 +1,8 @@
 -- The invariant: what is found is that no pair below q is alike. After the loop q is 1024. The lengths of the names are those of the array's elements.
 use Prim.Native.Nat.{◌≤◌, ◌-◌}
-use native.Mathlib.Numerals.{add-one}
-use native.Mathlib.Omega.{arith}
-use mathlib.Core.Path.{◌≡◌, refl, sym}
-use borrow.Author.Rules.{rules}
+use mathlib.Core.Path.{◌≡◌}
 use Rattle.machine.specs.Places.{all_below}
-use Rattle.rules.specs.Apart.{apart_at, names_alike, names_apart}
-use Rattle.rules.proofs.ElementLaws.{names_long}
+use Rattle.rules.specs.Apart.{apart_at, names_alike}
 use Rattle.rules.proofs.names_compared.Given as goal
 
 abbrev pub invariant-loop-q : goal.invariant-loop-q

@@ -1,5 +1,4 @@
 -- By the test.
-use borrow.Author.Rules.{rules}
 use Rattle.rules.proofs.one_more.Goals as goal
 
 pub returns-then-counts : goal.returns-then-counts

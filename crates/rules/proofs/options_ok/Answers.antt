@@ -1,6 +1,5 @@
 -- By the count: no options, too many, or each by its rules and apart.
 use native.Mathlib.Omega.{arith}
-use borrow.Author.Rules.{rules}
 use Rattle.rules.proofs.ElementLaws.{options_long}
 use Rattle.rules.proofs.OptionLaws.{options_none, options_many}
 use Rattle.rules.proofs.DistinctLaws.{options_are}

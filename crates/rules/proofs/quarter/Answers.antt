@@ -1,6 +1,5 @@
 -- The four bytes are below 256 each.
 use native.Mathlib.Omega.{arith}
-use borrow.Author.Rules.{rules}
 use Rattle.rules.specs.Keys.{quarter_at}
 use Rattle.rules.proofs.quarter.Goals as goal
 

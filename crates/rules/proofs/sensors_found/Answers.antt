@@ -1,5 +1,5 @@
 -- The invariant: what is found is the test of each place below j, and what is written are the type, the number of options and the key of each. After the loop j is 32.
-use Prim.Native.Nat.{ℕ, ◌≤◌, ◌<◌, ◌-◌}
+use Prim.Native.Nat.{ℕ, ◌<◌}
 use native.Mathlib.Numerals.{add-one}
 use native.Mathlib.Omega.{arith}
 use mathlib.Core.Path.{◌≡◌, refl, sym, ◌∙◌}
@@ -7,8 +7,6 @@ use mathlib.Core.Bool.{◌&&◌}
 use mathlib.Core.List.{List, ◌++◌}
 use lib.Dec.{leb}
 use lib.ListN.{drop, replicate}
-use borrow.Author.Tests.{not-false}
-use borrow.Author.Rules.{rules}
 use Rattle.machine.specs.declared.Sheet.{Sheet}
 use Rattle.machine.specs.Places.{all_below, tabulate}
 use Rattle.machine.specs.Sheet.{sensor_of, sensor_ok_at, sensors_ok}
@@ -71,11 +69,11 @@ returns c = let sheet = c.args.sheet in let turn = c.loop-j in
     let each : turn.ok ≡ all_below (sensor_ok_at sheet) 32 = rw e at turn.invariant.1.0 in
     let long = names_long sheet _ c.well_formed.0 in
     let ok : (leb sheet.count 32 && c.if-not-keys_apart.ok) ≡ sensors_ok sheet =
-        elim c.if-not-keys_apart.branch [
-          then-not-keys_apart w ↦ rw (w.ok-is, each, w.names_compared-ok.ensures) (sensors_are sheet long)
-        | else-not-keys_apart w ↦
-            rw (w.ok-is, each)
-            (sensors_keyed sheet long (rw (all_written (key_at sheet) e turn.invariant.1.1.1.1, c.held.ensures) at (sym c.keys_apart.ensures ∙ w.if-not-keys_apart.false)))
-        ]
+    elim c.if-not-keys_apart.branch [
+      | then-not-keys_apart w ↦ rw (w.ok-is, each, w.names_compared-ok.ensures) (sensors_are sheet long)
+      | else-not-keys_apart w ↦
+          rw (w.ok-is, each)
+          (sensors_keyed sheet long (rw (all_written (key_at sheet) e turn.invariant.1.1.1.1, c.held.ensures) at (sym c.keys_apart.ensures ∙ w.if-not-keys_apart.false)))
+    ]
     in
     rw (ok, all_written (kind_at sheet) e turn.invariant.1.1.0, all_written (options_at sheet) e turn.invariant.1.1.1.0)

@@ -1,24 +1,12 @@
 -- The invariant: what is found is the test of each place below j, and what is written are the type, the number of options and the key of each. After the loop j is 32.
-use Prim.Native.Nat.{ℕ, ◌≤◌, ◌<◌, ◌-◌}
-use native.Mathlib.Numerals.{add-one}
-use native.Mathlib.Omega.{arith}
-use mathlib.Core.Path.{◌≡◌, refl, sym, ◌∙◌}
-use mathlib.Core.Bool.{◌&&◌}
-use mathlib.Core.Logic.{⊎_elim}
+use Prim.Native.Nat.{ℕ, ◌≤◌, ◌-◌}
+use mathlib.Core.Path.{◌≡◌}
 use mathlib.Core.List.{List, ◌++◌}
-use lib.Dec.{leb}
 use lib.ListN.{drop, replicate}
-use borrow.Author.Tests.{not-false}
-use borrow.Author.Rules.{rules}
 use Rattle.machine.specs.declared.Sheet.{Sheet}
 use Rattle.machine.specs.Places.{all_below, tabulate}
-use Rattle.machine.specs.Sheet.{sensor_of, sensor_ok_at, sensors_ok}
-use Rattle.machine.proofs.StoreLaws.{filled_one, filled_all}
-use Rattle.rules.specs.Texts.{up_to}
-use Rattle.rules.specs.Keys.{name_key, name_keys}
-use Rattle.rules.specs.Found.{sensors_found}
-use Rattle.rules.proofs.ElementLaws.{names_long}
-use Rattle.rules.proofs.DistinctLaws.{sensors_are, sensors_keyed}
+use Rattle.machine.specs.Sheet.{sensor_of, sensor_ok_at}
+use Rattle.rules.specs.Keys.{name_key}
 use Rattle.rules.proofs.sensors_found.Given as goal
 
 -- the type, the number of options and the key at a place

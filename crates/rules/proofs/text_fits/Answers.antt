@@ -1,11 +1,7 @@
 -- What is found so far, and the test of the rest, is the test of the whole.
-use Prim.Native.Nat.{◌-◌}
 use native.Mathlib.Omega.{arith}
-use lib.ListN.{length}
-use borrow.Author.Rules.{rules}
 use Rattle.machine.specs.Sheet.{text_fits}
-use Rattle.rules.specs.Texts.{in_charset}
-use Rattle.rules.proofs.BytesLaws.{Passing, passing, passing_on, passing_end}
+use Rattle.rules.proofs.BytesLaws.{passing, passing_on, passing_end}
 use Rattle.rules.proofs.text_fits.Goals as goal
 
 pub loop-i-init : goal.loop-i-init

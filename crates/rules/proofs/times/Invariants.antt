@@ -1,13 +1,9 @@
 -- The invariant: so many of the keys passed are the one asked for. The measure is the places that are left.
 use Prim.Native.Nat.{◌≤◌, ◌-◌}
-use native.Mathlib.Numerals.{add-one}
-use native.Mathlib.Omega.{arith}
-use mathlib.Core.Path.{◌≡◌, refl}
+use mathlib.Core.Path.{◌≡◌}
 use lib.Dec.{eqb}
 use lib.ListN.{get_or}
-use borrow.Author.Rules.{rules}
 use Rattle.rules.specs.Keys.{how_many}
-use Rattle.rules.proofs.KeyLaws.{few}
 use Rattle.rules.proofs.times.Given as goal
 
 abbrev pub invariant-loop-i : goal.invariant-loop-i

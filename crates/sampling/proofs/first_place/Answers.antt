@@ -1,6 +1,5 @@
 -- By the cause, where there is a visit.
-use borrow.Author.Tests.{not-true, not-false, lt-ltb, le-ltb}
-use borrow.Author.Rules.{rules}
+use borrow.Author.Tests.{lt-ltb, le-ltb}
 use Rattle.sampling.specs.Visits.{first_place}
 use Rattle.sampling.proofs.first_place.Goals as goal
 

@@ -1,6 +1,5 @@
 -- Status, or numbers of two valid samples.
 use Rattle.machine.specs.Report.{moved}
-use borrow.Author.Rules.{rules}
 use Rattle.sampling.proofs.has_moved.Goals as goal
 
 pub returns : goal.returns

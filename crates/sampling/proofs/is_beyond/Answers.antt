@@ -2,7 +2,6 @@
 use borrow.Author.Tests.{ne_eqb}
 use Rattle.machine.specs.Report.{beyond}
 use Rattle.sampling.proofs.WidthLaws.{by_quotients, by_quotient}
-use borrow.Author.Rules.{rules}
 use Rattle.sampling.proofs.is_beyond.Goals as goal
 
 pub returns-in-1 : goal.returns-in-1

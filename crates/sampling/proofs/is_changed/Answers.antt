@@ -1,6 +1,5 @@
 -- Status or number.
 use Rattle.machine.specs.Report.{changed}
-use borrow.Author.Rules.{rules}
 use Rattle.sampling.proofs.is_changed.Goals as goal
 
 pub returns : goal.returns

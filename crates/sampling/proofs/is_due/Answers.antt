@@ -1,6 +1,5 @@
 -- Each strategy by its rule.
 use Rattle.machine.specs.Report.{due_by, due}
-use borrow.Author.Rules.{rules}
 use Rattle.sampling.proofs.is_due.Goals as goal
 
 pub returns-in-None : goal.returns-in-None

@@ -1,5 +1,4 @@
 -- By the cause, and at a tick by whether client and sensor are there.
-use borrow.Author.Rules.{rules}
 use Rattle.sampling.specs.Visits.{next_place}
 use Rattle.sampling.proofs.next_place.Goals as goal
 

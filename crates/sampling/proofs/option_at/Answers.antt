@@ -3,7 +3,6 @@ use native.Mathlib.Omega.{arith}
 use lib.ListN.{get_or-eq_default}
 use Rattle.machine.specs.Sheet.{no_choice}
 use Rattle.machine.proofs.ArrayLaws.{options_many}
-use borrow.Author.Rules.{rules}
 use Rattle.sampling.proofs.option_at.Goals as goal
 
 pub returns : goal.returns

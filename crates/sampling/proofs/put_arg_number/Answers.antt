@@ -1,5 +1,4 @@
 -- The text of the option, as the type has it.
-use borrow.Author.Rules.{rules}
 use Rattle.machine.specs.Messages.{value_for}
 use Rattle.sampling.proofs.put_arg_number.Goals as goal
 

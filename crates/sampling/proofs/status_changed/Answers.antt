@@ -1,6 +1,5 @@
 -- Two statuses are compared.
 use Rattle.machine.specs.Report.{status_changed}
-use borrow.Author.Rules.{rules}
 use Rattle.sampling.proofs.status_changed.Goals as goal
 
 pub returns : goal.returns

@@ -1,5 +1,4 @@
 -- By the test.
-use borrow.Author.Rules.{rules}
 use mathlib.Core.Path.{sym, ◌∙◌}
 use Rattle.machine.specs.Requests.{sampled}
 use Rattle.machine.proofs.RangeLaws.{none_is}

@@ -1,5 +1,4 @@
 -- The two ways out are the test's.
-use borrow.Author.Rules.{rules}
 use mathlib.Core.Path.{sym, ◌∙◌}
 use Rattle.scientific.proofs.behind_point.Goals as goal
 

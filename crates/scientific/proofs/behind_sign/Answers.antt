@@ -1,5 +1,4 @@
 -- The two ways out are the test's.
-use borrow.Author.Rules.{rules}
 use mathlib.Core.Path.{sym, ap₂, ◌∙◌}
 use mathlib.Core.Bool.{◌||◌}
 use Rattle.scientific.proofs.behind_sign.Goals as goal

@@ -1,5 +1,4 @@
 -- What stands behind the first byte, without a sign.
-use borrow.Author.Rules.{rules}
 use mathlib.Core.Path.{ap, ◌∙◌}
 use Rattle.scientific.specs.Decimal.{behind_sign}
 use Rattle.scientific.proofs.exponent_digits.Goals as goal

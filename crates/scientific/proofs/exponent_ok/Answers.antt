@@ -1,5 +1,4 @@
 -- The tests are those of the definition.
-use borrow.Author.Rules.{rules}
 use Rattle.scientific.proofs.ReadLaws.{exponent_tests}
 use Rattle.scientific.proofs.exponent_ok.Goals as goal
 

@@ -1,5 +1,4 @@
 -- Two texts have a digit where one of them has.
-use borrow.Author.Rules.{rules}
 use mathlib.Core.Path.{ap₂}
 use mathlib.Core.Bool.{◌&&◌}
 use Rattle.scientific.proofs.ReadLaws.{some_digits}

@@ -1,5 +1,4 @@
 -- An exponent moves the point to one side.
-use borrow.Author.Rules.{rules}
 use mathlib.Core.Path.{◌∙◌}
 use mathlib.Core.List.{◌++◌}
 use lib.ListN.{length}

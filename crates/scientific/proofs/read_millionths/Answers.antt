@@ -1,8 +1,6 @@
 -- The parts are those of the definition, and each way out is one of its tests.
-use borrow.Author.Rules.{rules}
 use mathlib.Core.Path.{◌≡◌}
 use mathlib.Core.Bool.{true}
-use borrow.Author.Tests.{not-true, not-false}
 use Rattle.scientific.proofs.ReadLaws as laws
 use Rattle.scientific.proofs.read_millionths.Goals as goal
 

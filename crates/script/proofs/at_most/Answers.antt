@@ -1,5 +1,4 @@
 -- The number's case, and the test.
-use borrow.Author.Rules.{rules}
 use Rattle.script.proofs.ReadingLaws.{at_most_in, at_most_out}
 use Rattle.script.proofs.at_most.Goals as goal
 

@@ -1,5 +1,4 @@
 -- Both callees' contracts.
-use borrow.Author.Rules.{rules}
 use mathlib.Core.Path.{ap, ◌∙◌}
 use Rattle.script.specs.Script.{at_most}
 use Rattle.script.proofs.byte_number.Goals as goal

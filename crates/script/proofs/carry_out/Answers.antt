@@ -1,5 +1,4 @@
 -- By the command.
-use borrow.Author.Rules.{rules}
 use mathlib.Core.Path.{refl}
 use Rattle.script.specs.Replay.{asking, answered, left}
 use Rattle.script.proofs.carry_out.Goals as goal

@@ -1,5 +1,4 @@
 -- The tests in the order of the definition.
-use borrow.Author.Rules.{rules}
 use mathlib.Core.Path.{sym, ◌∙◌}
 use lib.ListN.{length}
 use borrow.Author.Tests.{le-ltb}
@@ -16,36 +15,36 @@ returns-then-is_passed c = rw (
 pub returns-then-is_opening-has_bytes : goal.returns-then-is_opening-has_bytes
 unfolding command_of
 returns-then-is_opening-has_bytes c = rw (
-      le-ltb 65536 (length c.args.line.now) c.requires,
-      sym c.is_passed.ensures ∙ c.if-is_passed.false,
-      rw (c.is_opening.ensures, c.has_bytes.ensures) at c.if-is_opening-has_bytes.true,
-    ) c.open_command.ensures
+  le-ltb 65536 (length c.args.line.now) c.requires,
+  sym c.is_passed.ensures ∙ c.if-is_passed.false,
+  rw (c.is_opening.ensures, c.has_bytes.ensures) at c.if-is_opening-has_bytes.true,
+) c.open_command.ensures
 
 pub returns-in_default : goal.returns-in_default
 unfolding command_of
 returns-in_default c = rw (
-      le-ltb 65536 (length c.args.line.now) c.requires,
-      sym c.is_passed.ensures ∙ c.if-is_passed.false,
-      rw (c.is_opening.ensures, c.has_bytes.ensures) at c.if-is_opening-has_bytes.false,
-      sym c.number_at.ensures ∙ c.in_default.is,
-    )
+  le-ltb 65536 (length c.args.line.now) c.requires,
+  sym c.is_passed.ensures ∙ c.if-is_passed.false,
+  rw (c.is_opening.ensures, c.has_bytes.ensures) at c.if-is_opening-has_bytes.false,
+  sym c.number_at.ensures ∙ c.in_default.is,
+)
 
 pub returns-in_default-number_at : goal.returns-in_default-number_at
 unfolding command_of
 returns-in_default-number_at c = rw (
-      le-ltb 65536 (length c.args.line.now) c.requires,
-      sym c.is_passed.ensures ∙ c.if-is_passed.false,
-      rw (c.is_opening.ensures, c.has_bytes.ensures) at c.if-is_opening-has_bytes.false,
-      sym c.number_at.ensures ∙ c.in-Is.is,
-      sym c.number_at-2.ensures ∙ c.in_default-number_at.is,
-    )
+  le-ltb 65536 (length c.args.line.now) c.requires,
+  sym c.is_passed.ensures ∙ c.if-is_passed.false,
+  rw (c.is_opening.ensures, c.has_bytes.ensures) at c.if-is_opening-has_bytes.false,
+  sym c.number_at.ensures ∙ c.in-Is.is,
+  sym c.number_at-2.ensures ∙ c.in_default-number_at.is,
+)
 
 pub returns : goal.returns
 unfolding command_of
 returns c = rw (
-      le-ltb 65536 (length c.args.line.now) c.requires,
-      sym c.is_passed.ensures ∙ c.if-is_passed.false,
-      rw (c.is_opening.ensures, c.has_bytes.ensures) at c.if-is_opening-has_bytes.false,
-      sym c.number_at.ensures ∙ c.in-Is.is,
-      sym c.number_at-2.ensures ∙ c.in-Is-number_at.is,
-    ) c.called.ensures
+  le-ltb 65536 (length c.args.line.now) c.requires,
+  sym c.is_passed.ensures ∙ c.if-is_passed.false,
+  rw (c.is_opening.ensures, c.has_bytes.ensures) at c.if-is_opening-has_bytes.false,
+  sym c.number_at.ensures ∙ c.in-Is.is,
+  sym c.number_at-2.ensures ∙ c.in-Is-number_at.is,
+) c.called.ensures

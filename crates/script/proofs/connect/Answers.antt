@@ -1,5 +1,4 @@
 -- The word's bytes fit into the buffer.
-use borrow.Author.Rules.{rules}
 use Rattle.script.proofs.BytesLaws.{Held, held}
 use Rattle.script.proofs.connect.Goals as goal
 

@@ -1,5 +1,4 @@
 -- Bits above those of an infinity, the sign's taken off, are a NaN's.
-use borrow.Author.Rules.{rules}
 use Rattle.script.proofs.ReadingLaws.{above, not_above}
 use Rattle.script.proofs.double_of.Goals as goal
 

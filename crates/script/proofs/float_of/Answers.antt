@@ -1,5 +1,4 @@
 -- By the bits that were read.
-use borrow.Author.Rules.{rules}
 use mathlib.Core.Path.{sym, ap, ◌∙◌}
 use lib.Ieee.{Float as Double}
 use Rattle.value.specs.declared.Reading.TheVariants.{Float}

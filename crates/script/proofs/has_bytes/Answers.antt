@@ -1,5 +1,4 @@
 -- The callees' contracts.
-use borrow.Author.Rules.{rules}
 use mathlib.Core.Path.{ap, ◌∙◌}
 use Rattle.in_hex.specs.Hex.{is_bytes}
 use Rattle.script.proofs.has_bytes.Goals as goal

@@ -1,5 +1,4 @@
 -- By the words, with a profile or without.
-use borrow.Author.Rules.{rules}
 use Rattle.script.specs.Script.{is_opening}
 use Rattle.script.proofs.is_opening.Goals as goal
 

@@ -1,5 +1,4 @@
 -- By the first byte.
-use borrow.Author.Rules.{rules}
 use Rattle.script.proofs.CommandLaws.{passed_empty, passed_first}
 use Rattle.script.proofs.is_passed.Goals as goal
 

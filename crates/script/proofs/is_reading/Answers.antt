@@ -1,5 +1,4 @@
 -- By the words, with a time or without.
-use borrow.Author.Rules.{rules}
 use Rattle.script.specs.Script.{is_reading}
 use Rattle.script.proofs.is_reading.Goals as goal
 

@@ -1,5 +1,4 @@
 -- By LENT.
-use borrow.Author.Rules.{rules}
 use native.Mathlib.Omega.{arith}
 use mathlib.Core.Path.{sym, ◌∙◌}
 use Rattle.script.specs.Script.{lent_by}

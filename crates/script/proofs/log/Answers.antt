@@ -1,5 +1,4 @@
 -- The words' bytes fit into the buffers.
-use borrow.Author.Rules.{rules}
 use Rattle.script.proofs.BytesLaws.{Held, held}
 use Rattle.script.proofs.log.Goals as goal
 

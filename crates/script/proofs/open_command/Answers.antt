@@ -1,5 +1,4 @@
 -- By the profile that was read, which a byte holds.
-use borrow.Author.Rules.{rules}
 use native.Mathlib.Omega.{arith}
 use mathlib.Core.Path.{sym, ap, ◌∙◌}
 use Rattle.script.specs.Script.{opening}

@@ -1,5 +1,4 @@
 -- By the number that was read, which a byte holds.
-use borrow.Author.Rules.{rules}
 use native.Mathlib.Omega.{arith}
 use mathlib.Core.Path.{sym, ap, ◌∙◌}
 use Rattle.value.specs.declared.Reading.TheVariants.{Option as Choice}

@@ -1,6 +1,5 @@
 -- By the number of words.
 use mathlib.Core.Path.{sym, ap, ◌∙◌}
-use borrow.Author.Rules.{rules}
 use Rattle.script.specs.Script.{at_most, profile_at}
 use Rattle.script.proofs.profile_at.Goals as goal
 

@@ -1,5 +1,4 @@
 -- A sequence of writers.
-use borrow.Author.Rules.{rules}
 use Rattle.output.proofs.OutputLaws.{then}
 use Rattle.script.specs.Replay.{answer_line}
 use Rattle.script.proofs.put_answer.Goals as goal

@@ -1,5 +1,4 @@
 -- The place of the word in the table of readings, by its arm.
-use borrow.Author.Rules.{rules}
 use mathlib.Core.Path.{◌∙◌}
 use Rattle.script.proofs.KindLaws.{by_kind, no_kind}
 use Rattle.script.proofs.reading_of.Goals as goal

@@ -1,6 +1,5 @@
 -- By the number of words.
 use mathlib.Core.Path.{sym, ◌∙◌}
-use borrow.Author.Rules.{rules}
 use Rattle.script.specs.Script.{time_at}
 use Rattle.script.proofs.time_at.Goals as goal
 

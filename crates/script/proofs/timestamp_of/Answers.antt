@@ -1,5 +1,4 @@
 -- By the number that was read.
-use borrow.Author.Rules.{rules}
 use mathlib.Core.Path.{sym, ap, ◌∙◌}
 use Rattle.value.specs.declared.Reading.TheVariants.{Timestamp}
 use Rattle.script.specs.Script.{reading_of}

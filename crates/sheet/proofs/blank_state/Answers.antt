@@ -1,5 +1,4 @@
 -- What each call gives is the field's value in `blank`.
-use borrow.Author.Rules.{rules}
 use Rattle.sheet.proofs.blank_state.Goals as goal
 
 pub returns : goal.returns

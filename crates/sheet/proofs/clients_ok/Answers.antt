@@ -1,11 +1,8 @@
 -- The invariant: the clients passed are in range. The measure is the clients that are left.
-use Prim.Native.Nat.{◌≤◌, ◌-◌}
 use mathlib.Core.Path.{◌≡◌, refl}
 use native.Mathlib.Numerals.{add-one}
 use native.Mathlib.Omega.{arith}
-use borrow.Author.Rules.{rules}
 use Rattle.machine.specs.Places.{all_below}
-use Rattle.machine.specs.Range.{client_ok_at}
 use Rattle.sheet.proofs.clients_ok.Goals as goal
 
 pub loop-c-init : goal.loop-c-init

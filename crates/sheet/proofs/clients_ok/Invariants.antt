@@ -1,9 +1,6 @@
 -- The invariant: the clients passed are in range. The measure is the clients that are left.
 use Prim.Native.Nat.{◌≤◌, ◌-◌}
-use mathlib.Core.Path.{◌≡◌, refl}
-use native.Mathlib.Numerals.{add-one}
-use native.Mathlib.Omega.{arith}
-use borrow.Author.Rules.{rules}
+use mathlib.Core.Path.{◌≡◌}
 use Rattle.machine.specs.Places.{all_below}
 use Rattle.machine.specs.Range.{client_ok_at}
 use Rattle.sheet.proofs.clients_ok.Given as goal

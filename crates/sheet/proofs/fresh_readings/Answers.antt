@@ -1,11 +1,9 @@
 -- The invariant: the readings passed are those of a fresh device, the others are none. The measure is the places that are left.
-use Prim.Native.Nat.{ℕ, ◌≤◌, ◌-◌}
+use Prim.Native.Nat.{ℕ}
 use mathlib.Core.Path.{◌≡◌, refl}
-use mathlib.Core.List.{◌++◌}
 use native.Mathlib.Omega.{arith}
-use borrow.Author.Rules.{rules}
 use lib.Dec.{ltb}
-use lib.ListN.{drop, replicate}
+use lib.ListN.{replicate}
 use Rattle.machine.specs.declared.Sheet.{Sheet}
 use Rattle.machine.specs.declared.Stored.{Stored}
 use Rattle.machine.specs.Places.{tabulate}
@@ -24,10 +22,10 @@ loop-j-init c = (omega arith, rw c.no_stored-readings.ensures)
 
 pub loop-j-preserved : goal.loop-j-preserved
 loop-j-preserved c = (
-      omega arith,
-      rw (c.loop-j.invariant.1, c.fresh_stored.ensures)
-          (filled_one (fresh_at c.args.sheet) (replicate 32 no_stored) c.loop-j.j (omega arith)),
-    )
+  omega arith,
+  rw (c.loop-j.invariant.1, c.fresh_stored.ensures)
+      (filled_one (fresh_at c.args.sheet) (replicate 32 no_stored) c.loop-j.j (omega arith)),
+)
 
 pub returns : goal.returns
 unfolding fresh_readings

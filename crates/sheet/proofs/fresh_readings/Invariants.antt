@@ -1,17 +1,14 @@
 -- The invariant: the readings passed are those of a fresh device, the others are none. The measure is the places that are left.
 use Prim.Native.Nat.{ℕ, ◌≤◌, ◌-◌}
-use mathlib.Core.Path.{◌≡◌, refl}
+use mathlib.Core.Path.{◌≡◌}
 use mathlib.Core.List.{◌++◌}
-use native.Mathlib.Omega.{arith}
-use borrow.Author.Rules.{rules}
 use lib.Dec.{ltb}
 use lib.ListN.{drop, replicate}
 use Rattle.machine.specs.declared.Sheet.{Sheet}
 use Rattle.machine.specs.declared.Stored.{Stored}
 use Rattle.machine.specs.Places.{tabulate}
 use Rattle.machine.specs.Sheet.{sensor_of}
-use Rattle.machine.specs.State.{no_stored, fresh_stored, fresh_readings}
-use Rattle.machine.proofs.StoreLaws.{filled_one, filled_all}
+use Rattle.machine.specs.State.{no_stored, fresh_stored}
 use Rattle.sheet.proofs.fresh_readings.Given as goal
 
 -- the reading at a place of a fresh device

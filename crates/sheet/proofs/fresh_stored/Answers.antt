@@ -1,5 +1,4 @@
 -- Where there is a sensor, `invalid_sample` gives its sample; else `no_stored` gives the whole.
-use borrow.Author.Rules.{rules}
 use Rattle.sheet.proofs.fresh_stored.Goals as goal
 
 pub returns-then-there : goal.returns-then-there

@@ -1,5 +1,4 @@
 -- What each pass says, beside the tests of the profile, the clock, the level and the blank state.
-use borrow.Author.Rules.{rules}
 use Rattle.machine.specs.Range.{is_blank, profile_ok, in_range}
 use Rattle.rules.specs.Found.{sensors_found}
 use Rattle.sheet.proofs.FitsLaws.{readings_found, pairs_found}

@@ -1,14 +1,10 @@
 -- The invariant: none of the clients passed is connected. The measure is the clients that are left.
 use Prim.Native.Nat.{◌≤◌, ◌-◌}
-use mathlib.Core.Path.{◌≡◌, refl}
-use native.Mathlib.Numerals.{add-one}
-use native.Mathlib.Omega.{arith}
-use borrow.Author.Rules.{rules}
+use mathlib.Core.Path.{◌≡◌}
 use mathlib.Core.Bool.{not}
 use lib.ListN.{get_or}
 use Rattle.machine.specs.Places.{all_below}
 use Rattle.machine.specs.State.{no_client}
-use Rattle.machine.specs.Range.{no_clients}
 use Rattle.sheet.proofs.no_clients.Given as goal
 
 abbrev pub invariant-loop-c : goal.invariant-loop-c

@@ -1,5 +1,4 @@
 -- The blank state with the number.
-use borrow.Author.Rules.{rules}
 use Rattle.sheet.proofs.not_opened.Goals as goal
 
 pub returns : goal.returns

@@ -1,5 +1,4 @@
 -- The profile, what was read of the bytes, and whether they end there and the fresh state is in range, decide as `opened` does.
-use borrow.Author.Rules.{rules}
 use borrow.Author.Tests.{not-true, not-false}
 use mathlib.Core.Path.{sym, ◌∙◌}
 use Rattle.sheet.proofs.OpenLaws.{open_neither, open_broken, open_good, open_faulty}

@@ -1,5 +1,4 @@
 -- A report settles which of the two tests can hold; the calls say the rest of it.
-use borrow.Author.Rules.{rules}
 use Rattle.machine.specs.Range.{pair_none}
 use Rattle.sheet.specs.Fits.{reported_fits}
 use Rattle.sheet.proofs.FitsLaws.{or_never}

@@ -1,10 +1,7 @@
 -- The invariant: the subscriptions passed fit. The measure is the places that are left.
 use Prim.Native.Nat.{◌≤◌, ◌-◌}
 use mathlib.Core.Bool.{true}
-use mathlib.Core.Path.{◌≡◌, refl}
-use native.Mathlib.Numerals.{add-one}
-use native.Mathlib.Omega.{arith}
-use borrow.Author.Rules.{rules}
+use mathlib.Core.Path.{◌≡◌}
 use Rattle.machine.specs.Places.{all_below}
 use Rattle.sheet.specs.Fits.{pair_fits}
 use Rattle.sheet.proofs.pairs_ok.Given as goal

@@ -1,5 +1,4 @@
 -- What `period_ok` says of the longest, beside the one test.
-use borrow.Author.Rules.{rules}
 use Rattle.sheet.proofs.rates_ok.Goals as goal
 
 pub returns : goal.returns

@@ -1,10 +1,7 @@
 -- The invariant: the readings passed fit. The measure is the places that are left.
 use Prim.Native.Nat.{◌≤◌, ◌-◌}
 use mathlib.Core.Bool.{true}
-use mathlib.Core.Path.{◌≡◌, refl}
-use native.Mathlib.Numerals.{add-one}
-use native.Mathlib.Omega.{arith}
-use borrow.Author.Rules.{rules}
+use mathlib.Core.Path.{◌≡◌}
 use Rattle.machine.specs.Places.{all_below}
 use Rattle.sheet.specs.Fits.{stored_fits}
 use Rattle.sheet.proofs.readings_ok.Given as goal

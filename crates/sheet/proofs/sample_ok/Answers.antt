@@ -1,7 +1,6 @@
 -- Each arm is a row of `sample_fits`; `number_fits_lem` and `zero_of` say the rest.
 use native.Mathlib.Omega.{arith}
 use borrow.Author.Tests.{ne_eqb, lt-leb}
-use borrow.Author.Rules.{rules}
 use Rattle.output.proofs.TableLaws.{past_all}
 use Rattle.value.specs.Reading.{sample_fits}
 use Rattle.sheet.proofs.sample_ok.Goals as goal

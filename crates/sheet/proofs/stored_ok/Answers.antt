@@ -1,5 +1,4 @@
 -- Where a sensor is there, `sample_ok` and the time; else `sample_none` and time 0.
-use borrow.Author.Rules.{rules}
 use Rattle.machine.specs.Range.{stored_none}
 use Rattle.sheet.proofs.stored_ok.Goals as goal
 

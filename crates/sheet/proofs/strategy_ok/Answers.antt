@@ -1,5 +1,4 @@
 -- Each arm is a row of `strategy_ok`.
-use borrow.Author.Rules.{rules}
 use Rattle.machine.specs.Range.{strategy_ok}
 use Rattle.sheet.proofs.strategy_ok.Goals as goal
 

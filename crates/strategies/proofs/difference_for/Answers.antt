@@ -1,6 +1,5 @@
 -- Each arm is the definition's.
 use borrow.Author.Tests.{ne_eqb}
-use borrow.Author.Rules.{rules}
 use Rattle.strategies.proofs.difference_for.Goals as goal
 
 pub returns-in-1 : goal.returns-in-1

@@ -1,6 +1,5 @@
 -- Each branch is the definition's.
 use mathlib.Core.Path.{sym, ◌∙◌}
-use borrow.Author.Rules.{rules}
 use Rattle.machine.specs.Requests.{difference_for, difference_of}
 use Rattle.machine.proofs.TestLaws.{cond_true}
 use Rattle.strategies.proofs.difference_of.Goals as goal

@@ -1,5 +1,4 @@
 -- Two parameters that can be read give the strategy; a bad one stays bad, whatever the other is.
-use borrow.Author.Rules.{rules}
 use Rattle.machine.specs.Places.{any}
 use Rattle.machine.specs.Requests.{strategy_by}
 use Rattle.strategies.specs.Settings.{made}

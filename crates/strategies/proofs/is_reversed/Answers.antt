@@ -1,5 +1,4 @@
 -- Each arm is the definition's.
-use borrow.Author.Rules.{rules}
 use Rattle.machine.specs.Requests.{shortest_over_longest}
 use Rattle.strategies.proofs.is_reversed.Goals as goal
 

@@ -1,14 +1,10 @@
 -- Whether one was found among the places so far. The measure is the places that are left.
-use Prim.Native.Nat.{◌-◌}
 use native.Mathlib.Omega.{arith}
 use mathlib.Core.Path.{ap, ◌∙◌}
 use mathlib.Core.Bool.{not}
-use lib.ListN.{length}
-use borrow.Author.Rules.{rules}
 use Rattle.value.specs.Reading.{is_measured}
-use Rattle.machine.specs.Sheet.{sensor_of}
 use Rattle.strategies.proofs.TypeLaws.{type_at}
-use Rattle.machine.proofs.FoundLaws.{Found, found_none, found_on, found_all}
+use Rattle.machine.proofs.FoundLaws.{found_none, found_on, found_all}
 use Rattle.strategies.proofs.is_unmeasured.Goals as goal
 
 pub loop-k-init : goal.loop-k-init

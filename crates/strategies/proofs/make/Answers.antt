@@ -1,6 +1,5 @@
 -- Each arm makes the strategy of its place from the parameters that `parameters_of` has for it.
 use borrow.Author.Tests.{ne_eqb}
-use borrow.Author.Rules.{rules}
 use Rattle.machine.specs.Requests.{parameters_of, strategy_by}
 use Rattle.machine.specs.Places.{any}
 use Rattle.strategies.specs.Settings.{made}

@@ -2,7 +2,6 @@
 use Prim.Native.Nat.{ℕ}
 use lib.ListN.{get_or-eq_default}
 use Rattle.output.proofs.TableLaws.{past_all}
-use borrow.Author.Rules.{rules}
 use Rattle.strategies.proofs.parameter_count.Goals as goal
 
 pub returns-in_default : goal.returns-in_default

@@ -1,5 +1,4 @@
 -- A parameter that can be read gives the strategy.
-use borrow.Author.Rules.{rules}
 use Rattle.machine.specs.Places.{any}
 use Rattle.machine.specs.Requests.{strategy_by}
 use Rattle.strategies.specs.Settings.{made}

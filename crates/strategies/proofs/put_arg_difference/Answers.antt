@@ -1,7 +1,6 @@
 -- Each arm writes the text that `difference_text` says.
 use borrow.Author.Tests.{ne_eqb}
 use borrow.Author.Rules.{rules}
-use Rattle.output.proofs.OutputLaws.{same}
 use Rattle.machine.specs.Messages.{difference_text}
 use Rattle.strategies.proofs.put_arg_difference.Goals as goal
 

@@ -1,6 +1,4 @@
 -- The word at the strategy's place.
-use borrow.Author.Rules.{rules}
-use Rattle.output.proofs.OutputLaws.{same}
 use Rattle.texts.specs.Table.{word_of}
 use Rattle.machine.specs.Messages.{strategy_text}
 use Rattle.strategies.proofs.put_arg_word.Goals as goal

@@ -1,5 +1,4 @@
 -- The difference, and then the periods.
-use borrow.Author.Rules.{rules}
 use Rattle.output.proofs.OutputLaws.{then}
 use Rattle.strategies.proofs.put_args_difference_rate.Goals as goal
 

@@ -1,5 +1,4 @@
 -- Each arm writes the parameters of its strategy.
-use borrow.Author.Rules.{rules}
 use Rattle.output.proofs.OutputLaws.{blank}
 use Rattle.output.proofs.OutputLaws.{alone}
 use Rattle.strategies.proofs.put_args_parameters.Goals as goal

@@ -1,5 +1,4 @@
 -- One argument after the other.
-use borrow.Author.Rules.{rules}
 use Rattle.output.proofs.OutputLaws.{then}
 use Rattle.output.proofs.OutputLaws.{alone}
 use Rattle.strategies.proofs.put_args_rate.Goals as goal

@@ -1,5 +1,4 @@
 -- The word, and then the parameters.
-use borrow.Author.Rules.{rules}
 use Rattle.output.proofs.OutputLaws.{then}
 use Rattle.strategies.proofs.put_args_strategy.Goals as goal
 

@@ -1,7 +1,6 @@
 -- Each return stands behind the tests of the rows before its own.
 use native.Mathlib.Omega.{arith}
 use mathlib.Core.Path.{◌∙◌}
-use borrow.Author.Rules.{rules}
 use Rattle.strategies.proofs.SettingLaws.{parameters_most, Suits, suited, declined_17, declined_15, declined_18, declined_19, declined_20, not_declined}
 use Rattle.strategies.proofs.read_setting.Goals as goal
 

@@ -1,5 +1,4 @@
 -- The tests in the order of the definition.
-use borrow.Author.Rules.{rules}
 use borrow.Author.Tests.{lt-ltb, le-ltb}
 use Rattle.terminal.specs.Entry.{entry_of}
 use Rattle.terminal.proofs.entry_of.Goals as goal
@@ -15,19 +14,19 @@ returns-then-has_words c = rw (le-ltb 2048 _ c.if-line-gt-LONGEST.false, ← c.h
 pub returns-then-has_words-2 : goal.returns-then-has_words-2
 unfolding entry_of
 returns-then-has_words-2 c = rw (
-      le-ltb 2048 _ c.if-line-gt-LONGEST.false,
-      ← c.has_words.ensures,
-      c.if-has_words.false,
-      ← c.has_words-2.ensures,
-      c.if-has_words-2.true,
-    ) c.reading_entry.ensures
+  le-ltb 2048 _ c.if-line-gt-LONGEST.false,
+  ← c.has_words.ensures,
+  c.if-has_words.false,
+  ← c.has_words-2.ensures,
+  c.if-has_words-2.true,
+) c.reading_entry.ensures
 
 pub returns : goal.returns
 unfolding entry_of
 returns c = rw (
-      le-ltb 2048 _ c.if-line-gt-LONGEST.false,
-      ← c.has_words.ensures,
-      c.if-has_words.false,
-      ← c.has_words-2.ensures,
-      c.if-has_words-2.false,
-    )
+  le-ltb 2048 _ c.if-line-gt-LONGEST.false,
+  ← c.has_words.ensures,
+  c.if-has_words.false,
+  ← c.has_words-2.ensures,
+  c.if-has_words-2.false,
+)

@@ -1,6 +1,5 @@
 -- By the first byte.
 use Rattle.terminal.proofs.EntryLaws.{whole_none, whole_minus, whole_plain}
-use borrow.Author.Rules.{rules}
 use Rattle.terminal.proofs.is_whole.Goals as goal
 
 pub returns-then-t-eq0 : goal.returns-then-t-eq0

@@ -2,7 +2,6 @@
 use mathlib.Core.Path.{sym, ◌∙◌}
 use Rattle.output.specs.Read.{read_decimal}
 use Rattle.terminal.proofs.EntryLaws.{natural_bad, natural_is}
-use borrow.Author.Rules.{rules}
 use Rattle.terminal.proofs.natural.Goals as goal
 
 pub returns-then-is_natural : goal.returns-then-is_natural

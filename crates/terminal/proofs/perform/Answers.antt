@@ -1,6 +1,5 @@
 -- Each kind of entry makes the call that its definition names.
 use Rattle.terminal.specs.Entry.{action_by}
-use borrow.Author.Rules.{rules}
 use Rattle.terminal.proofs.perform.Goals as goal
 
 pub returns-in-Tick : goal.returns-in-Tick

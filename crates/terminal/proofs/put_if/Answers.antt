@@ -1,5 +1,4 @@
 -- By the two ways of the branch.
-use borrow.Author.Rules.{rules}
 use Rattle.output.proofs.OutputLaws.{blank}
 use Rattle.terminal.proofs.put_if.Goals as goal
 

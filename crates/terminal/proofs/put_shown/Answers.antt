@@ -1,10 +1,6 @@
 -- What is still to be written is what the deliveries from `i` on show; each turn writes the line of one.
-use borrow.Author.Rules.{rules}
 use native.Mathlib.Omega.{arith}
-use Prim.Native.Nat.{◌≤◌, ◌-◌}
-use lib.ListN.{length, drop, length-drop}
-use Rattle.output.specs.Output.{output}
-use Rattle.output.proofs.OutputLaws.{same}
+use lib.ListN.{drop, length-drop}
 use Rattle.output.proofs.RestLaws as R
 use Rattle.terminal.specs.Shown.{shown_to}
 use Rattle.terminal.proofs.ShownLaws.{shown_none, shown_more}

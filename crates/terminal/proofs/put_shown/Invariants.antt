@@ -1,13 +1,9 @@
 -- What is still to be written is what the deliveries from `i` on show; each turn writes the line of one.
-use borrow.Author.Rules.{rules}
-use native.Mathlib.Omega.{arith}
 use Prim.Native.Nat.{◌≤◌, ◌-◌}
-use lib.ListN.{length, drop, length-drop}
+use lib.ListN.{length, drop}
 use Rattle.output.specs.Output.{output}
-use Rattle.output.proofs.OutputLaws.{same}
 use Rattle.output.proofs.RestLaws as R
 use Rattle.terminal.specs.Shown.{shown_to}
-use Rattle.terminal.proofs.ShownLaws.{shown_none, shown_more}
 use Rattle.terminal.proofs.put_shown.Given as goal
 
 abbrev pub invariant-loop-i : goal.invariant-loop-i

@@ -1,6 +1,4 @@
 -- By the number of word 1, and whether word 2 is an integer.
-use borrow.Author.Tests.{not-true, not-false}
-use borrow.Author.Rules.{rules}
 use Rattle.terminal.proofs.reading_entry.Goals as goal
 
 pub returns-in_default : goal.returns-in_default

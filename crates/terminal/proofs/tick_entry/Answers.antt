@@ -1,5 +1,4 @@
 -- By the number of word 1.
-use borrow.Author.Rules.{rules}
 use Rattle.terminal.proofs.tick_entry.Goals as goal
 
 pub returns-in_default : goal.returns-in_default

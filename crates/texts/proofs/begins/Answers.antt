@@ -1,5 +1,4 @@
 -- An empty text begins with no byte.
-use borrow.Author.Rules.{rules}
 use Rattle.texts.proofs.ClassLaws.{begins_none, begins_some}
 use Rattle.texts.proofs.begins.Goals as goal
 

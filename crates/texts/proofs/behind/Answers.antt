@@ -1,5 +1,4 @@
 -- The bytes before the first `stop` are counted; what stands behind it starts one further on, or at the end.
-use borrow.Author.Rules.{rules}
 use Prim.Native.Nat.{◌≤◌}
 use native.Mathlib.Omega.{arith}
 use lib.ListN.{length}

@@ -1,5 +1,4 @@
 -- By the class.
-use borrow.Author.Rules.{rules}
 use Rattle.texts.proofs.in_class.Goals as goal
 
 pub returns-in-Blank : goal.returns-in-Blank

@@ -1,5 +1,4 @@
 -- The test is the definition, over what the two calls say.
-use borrow.Author.Rules.{rules}
 use Rattle.texts.specs.Class.{name_byte}
 use Rattle.texts.proofs.is_name_byte.Goals as goal
 

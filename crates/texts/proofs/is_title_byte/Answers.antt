@@ -1,5 +1,4 @@
 -- The test is the definition, over what the two calls say.
-use borrow.Author.Rules.{rules}
 use Rattle.texts.specs.Class.{title_byte}
 use Rattle.texts.proofs.is_title_byte.Goals as goal
 

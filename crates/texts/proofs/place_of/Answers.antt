@@ -8,7 +8,7 @@ use mathlib.Core.List.{List}
 use lib.ListN.{length, take, drop}
 use Rattle.output.specs.Text.{same}
 use Rattle.texts.specs.Table.{place_in, place_of}
-use Rattle.texts.proofs.TableLaws.{Walking, walking, walk_within, walk_on, walk_here, walk_end}
+use Rattle.texts.proofs.TableLaws.{walking, walk_within, walk_on, walk_here, walk_end}
 use Rattle.texts.proofs.place_of.Goals as goal
 
 abbrev places : List ℕ → List (List ℕ) → ℕ

@@ -1,14 +1,9 @@
 -- Each turn passes a word that is another.
-use borrow.Author.Rules.{rules}
-use Prim.Native.Nat.{ℕ, ◌+◌, ◌-◌, ◌≤◌}
-use native.Mathlib.Omega.{arith}
-use mathlib.Core.Path.{◌≡◌, refl, sym, ◌∙◌}
-use mathlib.Core.Bool.{Bool}
+use Prim.Native.Nat.{ℕ, ◌+◌, ◌-◌}
 use mathlib.Core.List.{List}
-use lib.ListN.{length, take, drop}
-use Rattle.output.specs.Text.{same}
-use Rattle.texts.specs.Table.{place_in, place_of}
-use Rattle.texts.proofs.TableLaws.{Walking, walking, walk_within, walk_on, walk_here, walk_end}
+use lib.ListN.{length}
+use Rattle.texts.specs.Table.{place_in}
+use Rattle.texts.proofs.TableLaws.{Walking}
 use Rattle.texts.proofs.place_of.Given as goal
 
 abbrev places : List ℕ → List (List ℕ) → ℕ

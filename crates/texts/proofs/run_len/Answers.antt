@@ -1,11 +1,6 @@
 -- The bytes before i, and what the definition counts from i on, are what it counts of the whole.
-use borrow.Author.Rules.{rules}
-use borrow.Author.Tests.{not-true, not-false}
-use Prim.Native.Nat.{◌+◌, ◌-◌, ◌≤◌}
-use mathlib.Core.Path.{◌≡◌, sym, ◌∙◌}
+use mathlib.Core.Path.{sym, ◌∙◌}
 use native.Mathlib.Omega.{arith}
-use lib.ListN.{length, drop}
-use Rattle.output.specs.Text.{run}
 use Rattle.output.proofs.RunLaws.{run_stops, run_goes, run_over}
 use Rattle.texts.specs.Class.{in_class}
 use Rattle.texts.proofs.run_len.Goals as goal

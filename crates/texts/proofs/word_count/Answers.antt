@@ -1,10 +1,10 @@
 -- Each turn passes a word.
 use borrow.Author.Rules.{rules}
-use Prim.Native.Nat.{◌+◌, ◌-◌, ◌≤◌}
+use Prim.Native.Nat.{◌+◌, ◌≤◌}
 use native.Mathlib.Omega.{arith}
 use mathlib.Core.Path.{refl}
 use lib.ListN.{length}
-use Rattle.texts.proofs.TableLaws.{Walking, walking, walk_within, walk_on, walk_end}
+use Rattle.texts.proofs.TableLaws.{walking, walk_within, walk_on, walk_end}
 use Rattle.texts.proofs.word_count.Goals as goal
 
 pub loop-from-init : goal.loop-from-init

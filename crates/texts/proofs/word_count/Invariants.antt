@@ -1,10 +1,7 @@
 -- Each turn passes a word.
-use borrow.Author.Rules.{rules}
-use Prim.Native.Nat.{◌+◌, ◌-◌, ◌≤◌}
-use native.Mathlib.Omega.{arith}
-use mathlib.Core.Path.{refl}
+use Prim.Native.Nat.{◌+◌, ◌-◌}
 use lib.ListN.{length}
-use Rattle.texts.proofs.TableLaws.{Walking, walking, walk_within, walk_on, walk_end}
+use Rattle.texts.proofs.TableLaws.{Walking}
 use Rattle.texts.proofs.word_count.Given as goal
 
 abbrev pub invariant-loop-from : goal.invariant-loop-from

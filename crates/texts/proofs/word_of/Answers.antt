@@ -1,8 +1,7 @@
 -- Each turn passes a word, where one is left to pass and another stands behind it.
 use borrow.Author.Rules.{rules}
-use Prim.Native.Nat.{◌-◌}
 use native.Mathlib.Omega.{arith}
-use Rattle.texts.proofs.TableLaws.{Seeking, seeking, seek_on, seek_last, seek_first}
+use Rattle.texts.proofs.TableLaws.{seeking, seek_on, seek_last, seek_first}
 use Rattle.texts.proofs.word_of.Goals as goal
 
 pub loop-left-init : goal.loop-left-init

@@ -1,6 +1,5 @@
 -- The sign bit turned over.
 use native.Mathlib.Omega.{arith}
-use borrow.Author.Rules.{rules}
 use Rattle.value.specs.Integer.{word}
 use Rattle.value.proofs.SignedLaws.{word_low, word_high}
 use Rattle.value.proofs.biased_word.Goals as goal

@@ -1,6 +1,5 @@
 -- The pattern's fields.
 use mathlib.Core.Path.{sym, ◌∙◌}
-use borrow.Author.Rules.{rules}
 use Rattle.value.specs.Double.{whole_of}
 use Rattle.value.proofs.BitLaws.{whole_same, whole_big, bits_low, bits_mid, bits_high}
 use Rattle.value.proofs.fit_bits.Goals as goal

@@ -1,5 +1,4 @@
 -- The tests are those that `within` makes.
-use borrow.Author.Rules.{rules}
 use borrow.Author.Tests.{le-leb, lt-leb}
 use Rattle.value.proofs.fit_size.Goals as goal
 

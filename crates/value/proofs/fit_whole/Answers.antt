@@ -1,7 +1,6 @@
 -- The unit is 2^shift, and from 2^64 on the digits are below it.
 use mathlib.Core.Path.{sym, ◌∙◌}
 use Prim.Native.Nat.{◌^◌}
-use borrow.Author.Rules.{rules}
 use Rattle.value.proofs.BitLaws.{unit_is, unit_pos, of_zero, of_part, of_whole, of_rest, far}
 use Rattle.value.proofs.fit_whole.Goals as goal
 

@@ -1,5 +1,4 @@
 -- The answer of `exact_1024ths` is taken apart as `of_fit` takes it.
-use borrow.Author.Rules.{rules}
 use mathlib.Core.Path.{sym, ap, ◌∙◌}
 use Rattle.value.specs.Reading.{of_fit}
 use Rattle.value.proofs.float_sample.Goals as goal

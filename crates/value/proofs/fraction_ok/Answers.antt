@@ -1,6 +1,5 @@
 -- The tests are those of `fraction_ok`.
 use Rattle.value.proofs.DecimalLaws.{fraction_none, fraction_some}
-use borrow.Author.Rules.{rules}
 use Rattle.value.proofs.fraction_ok.Goals as goal
 
 pub returns-then-s-eq0 : goal.returns-then-s-eq0

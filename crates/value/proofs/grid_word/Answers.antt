@@ -1,6 +1,5 @@
 -- The number stored as an integer is 2^30 above the count of 1024ths.
 use lib.IntN.{ℤ}
-use borrow.Author.Rules.{rules}
 use Rattle.value.specs.Integer.{signed32, word}
 use Rattle.value.proofs.SignedLaws.{too_low, too_high, in_grid}
 use Rattle.value.proofs.grid_word.Goals as goal

@@ -1,6 +1,5 @@
 -- The number is what `zero_of` answers.
 use mathlib.Core.Path.{ap}
-use borrow.Author.Rules.{rules}
 use Rattle.value.specs.Reading.{sample}
 use Rattle.value.proofs.invalid_sample.Goals as goal
 

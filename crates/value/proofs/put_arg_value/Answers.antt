@@ -1,11 +1,10 @@
 -- Each arm's writer writes the argument that `value_text` says of its type.
-use borrow.Author.Rules.{rules}
 use Prim.Native.Nat.{ℕ}
 use mathlib.Core.Path.{ap, sym}
 use mathlib.Core.List.{List}
 use lib.ListN.{take}
 use Rattle.message.specs.Message.{arg}
-use Rattle.output.proofs.OutputLaws.{same, said}
+use Rattle.output.proofs.OutputLaws.{said}
 use Rattle.value.specs.Value.{value_text}
 use Rattle.value.proofs.ValueLaws.{text_other}
 use Rattle.value.proofs.put_arg_value.Goals as goal

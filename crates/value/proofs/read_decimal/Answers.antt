@@ -5,8 +5,6 @@ use mathlib.Core.Path.{◌≡◌, ap, ap₂, sym, ◌∙◌}
 use mathlib.Core.Bool.{true, ◌&&◌}
 use mathlib.Core.List.{List, ◌++◌}
 use lib.ListN.{length, drop}
-use borrow.Author.Rules.{rules}
-use borrow.Author.Tests.{not-true, not-false}
 use Rattle.output.specs.Read.{value_from}
 use Rattle.value.specs.Parameter.{whole, whole_ok, fraction_ok, plain_decimal, fraction}
 use Rattle.value.proofs.DecimalLaws.{not_plain, too_long, out_is, in_is}

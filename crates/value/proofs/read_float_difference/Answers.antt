@@ -1,5 +1,4 @@
 -- The number that was read, as a parameter.
-use borrow.Author.Rules.{rules}
 use mathlib.Core.Path.{sym, ◌∙◌}
 use Rattle.value.proofs.ExactLaws.{as_parameter_lem}
 use Rattle.value.proofs.read_float_difference.Goals as goal

@@ -2,7 +2,6 @@
 use mathlib.Core.Path.{sym, ◌∙◌}
 use native.Mathlib.Omega.{arith}
 use Rattle.value.proofs.DecimalLaws.{answer_below, in_millionths}
-use borrow.Author.Rules.{rules}
 use Rattle.value.proofs.read_integer_difference.Goals as goal
 
 pub returns-in_default : goal.returns-in_default

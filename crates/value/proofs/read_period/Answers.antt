@@ -1,6 +1,5 @@
 -- A call with the numbers of `period_of`.
 use Rattle.value.specs.Parameter.{period_of}
-use borrow.Author.Rules.{rules}
 use Rattle.value.proofs.read_period.Goals as goal
 
 pub returns : goal.returns

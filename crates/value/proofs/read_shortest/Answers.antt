@@ -1,6 +1,5 @@
 -- A call with the numbers of `shortest_of`.
 use Rattle.value.specs.Parameter.{shortest_of}
-use borrow.Author.Rules.{rules}
 use Rattle.value.proofs.read_shortest.Goals as goal
 
 pub returns : goal.returns

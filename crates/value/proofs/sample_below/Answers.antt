@@ -1,5 +1,4 @@
 -- The test is that of `below`.
-use borrow.Author.Rules.{rules}
 use borrow.Author.Tests.{lt-ltb, le-ltb}
 use Rattle.value.proofs.sample_below.Goals as goal
 

@@ -1,5 +1,4 @@
 -- Each arm is a row of `status_of`.
-use borrow.Author.Rules.{rules}
 use Rattle.value.specs.Status.{status_of}
 use Rattle.value.proofs.ValueLaws.{status_other}
 use Rattle.value.proofs.status_of.Goals as goal

@@ -1,6 +1,5 @@
 -- The tests are those of `whole_ok`.
 use Rattle.value.proofs.DecimalLaws.{whole_none, whole_some}
-use borrow.Author.Rules.{rules}
 use Rattle.value.proofs.whole_ok.Goals as goal
 
 pub returns-then-w-eq0 : goal.returns-then-w-eq0
