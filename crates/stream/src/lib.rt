@@ -2,11 +2,14 @@
 //! again; a call that fails is told from the end of the input, and ends the work.
 #![tactic(auto)]
 
-ghost use Rattle.std.specs.Prelude.{◌+◌, ◌≤◌, ◌≡◌, true, false, [], length, take, IsOk};
+ghost use Rattle.std.specs.Prelude.{ℕ, ◌+◌, ◌<◌, ◌≤◌, ◌≡◌, true, false, [], length, take, drop, negsuc, IfSome, IfErr, IsOk};
+ghost use Rattle.std.specs.IoError.{raw_os_error};
+ghost use Rattle.std.specs.Io.KnownBytes.{Appends, Consumes, IsAtEnd};
 ghost use Rattle.stream.specs.Filled.{Behind, Filled};
-ghost use Rattle.stream.specs.Content.{Within};
+ghost use Rattle.stream.specs.Content.{Within, AllOf};
 ghost use Rattle.stream.specs.Errors.{is_to_repeat};
 ghost use Rattle.io.specs.Counts.{IsPrefixLen};
+ghost use Rattle.io.specs.Digits.{IsDigitCount, last_digits};
 
 use input::Window;
 use std::fs::{OpenFile, OpenOptions};
@@ -50,7 +53,8 @@ fn is_to_repeat(got: isize, error: i32) -> bool
 
 // The same of a call's answer. Before it is made again, the processor is given to others.
 fn again(answer: &std::io::Result<usize>) -> bool
-    ensures { IsOk answer.now → result ≡ false }
+    ensures ok { IsOk answer.now → result ≡ false }
+    ensures err { IfErr answer.now (λ e. IfSome (raw_os_error e) (λ code. result ≡ is_to_repeat (negsuc 0) code)) }
 {
     let Err(error) = answer else {
         return false;
@@ -65,7 +69,8 @@ fn again(answer: &std::io::Result<usize>) -> bool
 // Writes the bytes in their order, each write from where the last one stopped: how many were taken, which is all of them, or those before the
 // first write that failed. In at most 2^64 writes: a descriptor need not become ready, and this ends.
 pub fn write_all<W: Write>(to: &mut W, bytes: &[u8]) -> usize
-    ensures { result ≤ length bytes.now }
+    ensures bound { result ≤ length bytes.now }
+    ensures taken { Appends (W.contents to.old) (W.contents to.new) (take result bytes.now) }
 {
     let mut at: usize = 0;
     let mut turns = u64::MAX;
@@ -84,13 +89,16 @@ pub fn write_all<W: Write>(to: &mut W, bytes: &[u8]) -> usize
 
 // The bytes go to an output: whether all were taken.
 pub fn print<W: Write>(to: &mut W, bytes: &[u8]) -> bool
-    ensures { bytes.now ≡ [] → result ≡ true }
+    ensures nothing { bytes.now ≡ [] → result ≡ true }
+    ensures all { result ≡ true → Appends (W.contents to.old) (W.contents to.new) bytes.now }
 {
     write_all(to, bytes) == bytes.len()
 }
 
 // A number goes to an output, in decimal: whether all its digits were taken.
-pub fn print_decimal<W: Write>(to: &mut W, n: u64) -> bool {
+pub fn print_decimal<W: Write>(to: &mut W, n: u64) -> bool
+    ensures { result ≡ true → (k : ℕ) × IsDigitCount 10 1 n k × Appends (W.contents to.old) (W.contents to.new) (last_digits 10 k n) }
+{
     let mut digits = [0u8; 20];
     let k = io::decimal(n, &mut digits);
     print(to, &digits[..k])
@@ -139,7 +147,9 @@ pub fn say_unread<W: Write>(errors: &mut W) {
 // A read behind the first `to` bytes of the buffer, in at most 2^64 tries. The end of the input, and a buffer that is full, bring no bytes.
 fn read_behind<R: Read>(input: &mut R, buf: &mut [u8], to: usize) -> Held
     requires { to ≤ length buf.old }
-    ensures { Behind buf.old to buf.new result.to result.failed }
+    ensures behind { Behind buf.old to buf.new result.to result.failed }
+    ensures bytes { Consumes (R.remaining input.old) (R.remaining input.new) (drop to (take result.to buf.new)) }
+    ensures end { result.failed ≡ false → result.to ≡ to → to < length buf.old → IsAtEnd (R.remaining input.new) }
 {
     let mut came = None;
     let mut repeat = true;
@@ -167,6 +177,8 @@ fn read_behind<R: Read>(input: &mut R, buf: &mut [u8], to: usize) -> Held
 pub fn refill<R: Read>(input: &mut R, buf: &mut [u8], w: Window, most: usize) -> Refilled
     ensures filled { Filled buf.old w most buf.new result.window }
     ensures to_value { result.failed ≡ true → result.window.to ≡ result.window.from }
+    ensures bytes { Consumes (R.remaining input.old) (R.remaining input.new) (drop result.window.from (take result.window.to buf.new)) }
+    ensures end { result.failed ≡ false → result.window.to ≡ result.window.from → result.window.from < length buf.old → IsAtEnd (R.remaining input.new) }
 {
     let rest = input::make_room(buf, w, most);
     let from = rest.to;
@@ -180,7 +192,8 @@ pub fn refill<R: Read>(input: &mut R, buf: &mut [u8], w: Window, most: usize) ->
 
 // Reads to the end of the input, which is known where the buffer has room left.
 pub fn read_all<R: Read>(input: &mut R, buf: &mut [u8]) -> Content
-    ensures { Within buf.new result }
+    ensures within { Within buf.new result }
+    ensures all { AllOf (R.remaining input.old) buf.new result }
 {
     let mut from: usize = 0;
     let mut held = read_behind(input, buf, 0);
@@ -199,7 +212,8 @@ pub fn read_all<R: Read>(input: &mut R, buf: &mut [u8]) -> Content
 
 // All of standard input: how many bytes it has. Where it cannot be read or the buffer is too short for it, a sentence says so, and there are none.
 pub fn read_input<R: Read, W: Write>(input: &mut R, errors: &mut W, buf: &mut [u8]) -> usize
-    ensures { IsPrefixLen result buf.new }
+    ensures within { IsPrefixLen result buf.new }
+    ensures all { 0 < result → IfSome (R.remaining input.old) (λ xs. xs ≡ take result buf.new) }
 {
     let content = read_all(input, buf);
     match content {

@@ -1,0 +1,32 @@
+-- The bytes that a writer took and that a reader gave, over two calls.
+use Rattle.std.proofs.Common.{◌≡◌, ℕ, ◌+◌, ◌-◌, ◌≤◌, List, ◌++◌, length, take, drop, Option, Result, Ok, Err, sym, ap, ◌∙◌, subst, arith, take-append-drop, length-take}
+use lib.Seq.{take-take}
+use Rattle.std.proofs.lemmas.List.{drop-take}
+use Rattle.std.proofs.KnownBytes.{Appends-trans, Appends-kept, Consumes-trans}
+use Rattle.std.specs.Io.{WritesAtMost}
+use Rattle.std.specs.Io.KnownBytes.{Appends, Consumes, WriteAppends}
+use Rattle.std.specs.Result.{result_unwrap_or}
+
+-- a text is its start and what stands behind it
+joined : (xs : List ℕ) (from to : ℕ) → from ≤ to → take from xs ++ drop from (take to xs) ≡ take to xs
+joined xs from to h = ap (λ (l : List ℕ). l ++ drop from (take to xs)) (sym (take-take from to xs h)) ∙ take-append-drop from (take to xs)
+
+-- a write behind the first `at` bytes took as many as it answers, and none where it failed
+pub taken_more : {E : Type 0} (a b c : Option (List ℕ)) (xs : List ℕ) (at : ℕ) (r : Result ℕ E) → at ≤ length xs → Appends a b (take at xs)
+    → WritesAtMost r (take (length xs - at) (drop at xs)) → WriteAppends b c r (take (length xs - at) (drop at xs))
+    → (at + result_unwrap_or r 0 ≤ length xs) × Appends a c (take (at + result_unwrap_or r 0) xs)
+taken_more a b c xs at (Ok n) h before bound bytes =
+    let fits : n ≤ length xs - at = omega (arith, bound, length-take (length xs - at) (drop at xs)) in
+    let part : take n (take (length xs - at) (drop at xs)) ≡ drop at (take (at + n) xs) = take-take n (length xs - at) (drop at xs) fits ∙ sym (drop-take at n xs) in
+    let whole : take at xs ++ take n (take (length xs - at) (drop at xs)) ≡ take (at + n) xs = ap (λ (l : List ℕ). take at xs ++ l) part ∙ joined xs at (at + n) (omega arith) in
+    (omega arith, subst (Appends a c) whole (Appends-trans a b c _ _ before bytes))
+taken_more a b c xs at (Err e) h before bound bytes =
+    let none : at ≡ at + 0 = omega arith in
+    (omega arith, subst (λ (k : ℕ). Appends a c (take k xs)) none (Appends-kept a b c (take at xs) before bytes))
+
+-- what a read put behind the first `from` bytes follows those
+pub given_more : (a b c : Option (List ℕ)) (buf after : List ℕ) (from to : ℕ) → from ≤ to → take from after ≡ take from buf
+    → Consumes a b (take from buf) → Consumes b c (drop from (take to after)) → Consumes a c (take to after)
+given_more a b c buf after from to forward front before more =
+    let whole : take from buf ++ drop from (take to after) ≡ take to after = ap (λ (l : List ℕ). l ++ drop from (take to after)) (sym front) ∙ joined after from to forward in
+    subst (Consumes a c) whole (Consumes-trans a b c _ _ before more)
