@@ -1,3 +1,4 @@
+-- What was read stands at the start of the buffer; where the end came with room left it is all.
 use Rattle.std.proofs.Common.{rules}
 use Rattle.stream.proofs.KnownLaws.{given_more}
 use Rattle.stream.proofs.read_all.Goals as goal

@@ -1,3 +1,4 @@
+-- What a read brought is what stands behind the place.
 use Rattle.std.proofs.lemmas.List.{drop-take}
 use Rattle.stream.proofs.read_behind.Goals as goal
 

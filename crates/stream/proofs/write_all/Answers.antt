@@ -1,3 +1,4 @@
+-- The bytes before the place are taken; a write adds those that it took.
 use Rattle.stream.proofs.KnownLaws.{taken_more}
 use Rattle.stream.proofs.write_all.Goals as goal
 
