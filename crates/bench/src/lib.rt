@@ -86,12 +86,10 @@ fn repeat(first: State, round: Round, line: &[u8], n: u64, out: &mut [u8]) -> Re
 {
     let mut state = first;
     let mut taken: u64 = 0;
-    let mut k: u64 = 0;
-    while k < n {
+    for k in 0..n {
         let answer = turn(state, round, line, k, out);
         taken = counted(taken, (answer.number == 0) & (answer.written <= out.len()));
         state = answer.state;
-        k += 1;
     }
     Repeated {
         state: state,
@@ -146,11 +144,9 @@ pub extern "C" fn bench_opens(sheet: &[u8], n: u64) -> u64
     ensures { result ≡ cond (eqb (opened (start_of 0 sheet.now)).number 0) n 0 }
 {
     let mut taken: u64 = 0;
-    let mut k: u64 = 0;
-    while k < n {
+    for _ in 0..n {
         let device = device::open(0, sheet);
         taken = counted(taken, device.number == 0);
-        k += 1;
     }
     taken
 }
@@ -160,10 +156,8 @@ fn check(state: State, n: u64) -> u64
     ensures { result ≡ cond (in_range state) n 0 }
 {
     let mut passed: u64 = 0;
-    let mut k: u64 = 0;
-    while k < n {
+    for _ in 0..n {
         passed = counted(passed, sheet::in_range(state));
-        k += 1;
     }
     passed
 }

@@ -1,4 +1,5 @@
 -- What a call answers and leaves on its output: by the number that declines it, or by what it sends.
+use Rattle.std.specs.Prelude.{Result, Err}
 use Prim.Native.Nat.{ℕ, zero, suc, ◌≤◌}
 use native.Mathlib.Omega.{arith}
 use mathlib.Core.Path.{◌≡◌, refl, sym, ◌∙◌, ap, subst}
@@ -11,10 +12,13 @@ use Rattle.message.specs.Delivery.{Sent, deliveries}
 use Rattle.message.proofs.DeliveryLaws.{at_start}
 use Rattle.machine.specs.declared.State.{State}
 use Rattle.machine.specs.declared.Answer.{Answer}
+use Rattle.machine.specs.declared.Refusal.{Refusal}
 use Rattle.machine.specs.Range.{in_range}
+use Rattle.machine.specs.Refusals.{refusal_number, number_in}
 use Rattle.machine.specs.Declined.{Action, call_of, action_declined, declined, refusal}
 use Rattle.machine.specs.Machine.{outcome, perform, step, answer_of, output_of}
 use Rattle.machine.proofs.TestLaws.{passed}
+use Rattle.machine.proofs.RefusalLaws.{not_zero}
 use Rattle.machine.proofs.StepLaws.{accepted}
 use Rattle.machine.proofs.Sent.{fits}
 
@@ -60,6 +64,11 @@ module _ (s : State) (action : Action) (lent : List ℕ) where
   unfolding outcome deliveries
   refused {n = zero} e h f q = absurd (h refl)
   refused {n = suc n} e h f q = (rw (q, e, f), rw (e, f))
+
+  -- the same by the row that declines it
+  pub turned_away : {A : Type 0} {v : Result A Refusal} {row : Refusal} {r : Answer} → number_of s action lent ≡ number_in v → v ≡ Err row → refusal s (number_in v) action ≡ []
+      → r ≡ record { number = refusal_number row; written = 0; state = s } → Answers s action lent r lent
+  turned_away e i f q = refused e (not_zero i) f (q ∙ ap (λ (n : ℕ). record { number = n; written = 0; state = s }) (sym (ap number_in i)))
 
   -- a call that gives what the machine makes of it, with room for every output
   pub answers : {r : Answer} {out : List ℕ} → 65536 ≤ length lent → r.number ≡ (step s (call_of action lent)).number → r.state ≡ (step s (call_of action lent)).next

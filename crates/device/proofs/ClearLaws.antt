@@ -1,5 +1,5 @@
 -- The subscriptions of a client, cleared one place after another.
-use Prim.Native.Nat.{ℕ, zero, suc, ◌+◌, ◌*◌, ◌/◌, ◌%◌, ◌<◌}
+use Prim.Native.Nat.{ℕ, ◌+◌, ◌*◌, ◌/◌, ◌%◌, ◌<◌}
 use native.Mathlib.Omega.{arith}
 use mathlib.Core.Path.{◌≡◌, refl, sym, ◌∙◌}
 use mathlib.Core.Bool.{Bool, true, false, cond, ◌&&◌}
@@ -14,7 +14,6 @@ use Rattle.machine.specs.State.{no_subscription}
 use Rattle.machine.proofs.PlacesLaws.{length-tabulate, get_or-tabulate, tabulate_same}
 use Rattle.machine.proofs.StoreLaws.{set_by_place}
 use Rattle.machine.proofs.TestLaws.{and_true, and_in, test_same}
-use Rattle.machine.proofs.TestLaws.{not_none}
 
 -- whether a place is one of the client's first j
 abbrev is_in : ℕ → ℕ → ℕ → Bool
@@ -38,11 +37,6 @@ in_is client j p e =
 either : {A : Type 0} (a b c : Bool) (x y : A) → (a ≡ true → c ≡ true) → (a ≡ false → b ≡ c) → cond a x (cond b x y) ≡ cond c x y
 either true b c x y h k = rw (h refl)
 either false b c x y h k = rw (k refl)
-
--- there is something to clear only where the number is 0, and then 32 places
-pub clears : (n j : ℕ) {most : ℕ} → most ≡ cond (eqb n 0) 32 0 → j < most → (n ≡ 0) × (most ≡ 32)
-clears zero j e h = (refl, e)
-clears (suc n) j e h = absurd (omega (arith, rw (not_none n) at e))
 
 module _ (pairs : List Subscription) (client : ℕ) where
   -- none is cleared at first
@@ -69,8 +63,6 @@ module _ (pairs : List Subscription) (client : ℕ) where
           (either (eqb p (client * 32 + j)) (is_in client j p) (is_in client (j + 1) p) no_subscription (get_or pairs p no_subscription)
           (λ e. let q = eqb-true p (client * 32 + j) e in is_in_lem client (j + 1) p (omega arith) (omega arith)) (λ e. elsewhere p (eqb-false p (client * 32 + j) e)))
 
-  -- all that a call of a number clears
-  pub cleared_all : (n : ℕ) {most : ℕ} → most ≡ cond (eqb n 0) 32 0 → length pairs ≡ 256
-      → tabulate (left_at pairs client most) 256 ≡ cond (eqb n 0) (tabulate (λ p. cond (eqb (p / 32) client) no_subscription (get_or pairs p no_subscription)) 256) pairs
-  cleared_all zero e h = rw e (tabulate_same (left_at pairs client 32) _ 256 (λ p m. rw (lt-ltb (p % 32) 32 (omega arith))))
-  cleared_all (suc n) e h = rw (e, not_none n) (sym (cleared_none h))
+  -- all that are to be cleared
+  pub cleared_all : tabulate (left_at pairs client 32) 256 ≡ tabulate (λ p. cond (eqb (p / 32) client) no_subscription (get_or pairs p no_subscription)) 256
+  cleared_all = tabulate_same (left_at pairs client 32) _ 256 (λ p m. rw (lt-ltb (p % 32) 32 (omega arith)))

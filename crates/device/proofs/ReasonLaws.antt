@@ -1,13 +1,11 @@
--- The text that a displaced client is told, written into a buffer; what a connect sends by its number and the profile.
+-- The text that a displaced client is told, written into a buffer; what a connect sends by the profile.
 use Prim.Native.Nat.{ℕ, ◌≤◌}
 use native.Mathlib.Omega.{arith}
-use mathlib.Core.Path.{◌≡◌, sym, ◌∙◌}
-use mathlib.Core.Bool.{true, false, cond}
-use mathlib.Core.List.{List, [], ◌++◌}
-use lib.Dec.{eqb}
+use mathlib.Core.Path.{◌≡◌, sym}
+use mathlib.Core.Bool.{true, false}
+use mathlib.Core.List.{List, ◌++◌}
 use lib.ListN.{length, take, replicate, length-append, length-replicate}
 use lib.Seq.{length-take-le, take-append_seam}
-use borrow.Author.Tests.{eq-eqb}
 use Rattle.output.specs.Output.{output, Wrote}
 use Rattle.output.specs.Text.{text}
 use Rattle.output.proofs.OutputLaws.{then, same, from_start}
@@ -34,13 +32,12 @@ reason {address} {half} {held} {p} {n} few first second =
     let i : n ≤ length held = omega (arith, f.0, same all, room, size, few) in
     record { inside = i; count = sym (length-take-le n held i); is = rw (f.1, f.0) (take-append_seam (text "New client connected from " ++ address) _) }
 
--- a connect that no row declines
-module _ {number : ℕ} (s : State) (c : ℕ) (address : List ℕ) (z : number ≡ 0) where
-  pub sends_single : single s.sheet.profile ≡ true → connect_single s.sheet s c address ≡ cond (eqb number 0) (connect_sends s.sheet s c address) []
+-- what a connect sends, by the profile
+module _ (s : State) (c : ℕ) (address : List ℕ) where
+  pub sends_single : single s.sheet.profile ≡ true → connect_single s.sheet s c address ≡ connect_sends s.sheet s c address
   unfolding connect_sends
-  sends_single e = sym (cond_true (eqb number 0) _ [] (eq-eqb number 0 z) ∙ cond_true (single s.sheet.profile) _ _ e)
+  sends_single e = sym (cond_true (single s.sheet.profile) _ _ e)
 
-  pub sends_others : single s.sheet.profile ≡ false
-      → greeting s.sheet c ++ to_others s c (client_connected address) ≡ cond (eqb number 0) (connect_sends s.sheet s c address) []
+  pub sends_others : single s.sheet.profile ≡ false → greeting s.sheet c ++ to_others s c (client_connected address) ≡ connect_sends s.sheet s c address
   unfolding connect_sends
-  sends_others e = sym (cond_true (eqb number 0) _ [] (eq-eqb number 0 z) ∙ cond_false (single s.sheet.profile) _ _ e)
+  sends_others e = sym (cond_false (single s.sheet.profile) _ _ e)

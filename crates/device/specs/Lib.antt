@@ -1,2 +1,1 @@
 pub mod Delivered
-pub mod Parts

@@ -2,7 +2,7 @@
 //! the next state; what it answers and what the output holds then are those of `step`, for every argument.
 #![tactic(auto)]
 
-ghost use Rattle.std.specs.Prelude.{◌≡◌, cond, ◌&&◌, [], ◌++◌, ◌/◌, ◌≤◌, ◌<◌, eqb, leb, ltb, length, get_or};
+ghost use Rattle.std.specs.Prelude.{◌≡◌, cond, ◌&&◌, [], ◌++◌, ◌/◌, ◌≤◌, ◌<◌, eqb, leb, ltb, length, get_or, Some, IfOk};
 ghost use Rattle.output.specs.Output.{output};
 ghost use Rattle.output.specs.Read.{in_time};
 ghost use Rattle.message.specs.Delivery.{to, Sent};
@@ -11,13 +11,13 @@ ghost use Rattle.machine.specs.Places.{tabulate, one_if};
 ghost use Rattle.machine.specs.Messages.{to_where, displaced, log_entry};
 ghost use Rattle.machine.specs.State as states;
 ghost use Rattle.machine.specs.Opening as opening;
+ghost use Rattle.machine.specs.Refusals.{number_in};
 ghost use Rattle.machine.specs.Declined as calls;
 ghost use Rattle.machine.specs.Machine.{greeting, connect_sends, step, answer_of, output_of};
-ghost use Rattle.device.specs.Parts.{readings_after};
 
-use machine::{Answer, Cause, Client, Opened, Sheet, State, Stored, Subscription};
+use machine::{Answer, Cause, Client, Opened, Refusal, Sheet, State, Stored, Subscription};
 use rules::Charset;
-use value::{Reading, Sample, Sampled};
+use value::{Reading, Sample};
 
 // The length of what stands before the address where a client is displaced.
 const DISPLACED: usize = 26;
@@ -31,55 +31,56 @@ pub fn open(profile: u8, sheet: &[u8]) -> Opened
 }
 
 // Row 7.
-fn address_row(address: &[u8]) -> u8
-    ensures { result ≡ cond (calls.address_fits address.now) 0 7 }
+fn address_row(address: &[u8]) -> Result<(), Refusal>
+    ensures { number_in result ≡ cond (calls.address_fits address.now) 0 7 }
 {
     if rules::text_fits(address, 1, machine::ADDRESS, Charset::Graphic) {
-        0
+        Ok(())
     } else {
-        7
+        Err(Refusal::AddressText)
     }
 }
 
 // Row 8: a tick to `ms` at a clock.
-fn tick_row(clock: u64, ms: u64) -> u8
-    ensures { result ≡ cond (leb clock ms && in_time ms) 0 8 }
+fn tick_row(clock: u64, ms: u64) -> Result<(), Refusal>
+    ensures { number_in result ≡ cond (leb clock ms && in_time ms) 0 8 }
 {
     if (clock <= ms) & (ms <= value::LAST_TIME) {
-        0
+        Ok(())
     } else {
-        8
+        Err(Refusal::TickTime)
     }
 }
 
 // Row 9.
-fn sensor_row(count: u8, sensor: usize) -> u8
-    ensures { result ≡ cond (leb count sensor) 9 0 }
+fn sensor_row(count: u8, sensor: usize) -> Result<(), Refusal>
+    ensures { number_in result ≡ cond (leb count sensor) 9 0 }
 {
-    if count as usize <= sensor { 9 } else { 0 }
+    if count as usize <= sensor {
+        Err(Refusal::NoSuchSensor)
+    } else {
+        Ok(())
+    }
 }
 
 // Row 11.
-fn entry_row(level: u8, logger: &[u8], message: &[u8]) -> u8
-    ensures { result ≡ cond (calls.entry_fits level logger.now message.now) 0 11 }
+fn entry_row(level: u8, logger: &[u8], message: &[u8]) -> Result<(), Refusal>
+    ensures { number_in result ≡ cond (calls.entry_fits level logger.now message.now) 0 11 }
 {
     let named = rules::text_fits(logger, 1, machine::NAME, Charset::Name);
     let plain = rules::text_fits(message, 0, 256, Charset::Entry);
     if ((1 <= level) & (level <= 6)) & (named & plain) {
-        0
+        Ok(())
     } else {
-        11
+        Err(Refusal::LogEntry)
     }
 }
 
-// A client that connects; where the call is declined, one that is not connected.
-fn newcomer(number: u8, address: &[u8]) -> Client
-    requires { number ≡ 0 → length address.now ≤ 48 }
-    ensures { result ≡ cond (eqb number 0) (states.client_at address.now) states.blank_client }
+// A client that connects.
+fn newcomer(address: &[u8]) -> Client
+    requires { length address.now ≤ 48 }
+    ensures { result ≡ states.client_at address.now }
 {
-    if number != 0 {
-        return machine::blank_client();
-    }
     let mut text = [0; machine::ADDRESS];
     output::put_bytes(&mut text, 0, address);
     Client {
@@ -89,71 +90,26 @@ fn newcomer(number: u8, address: &[u8]) -> Client
     }
 }
 
-// How many places of a client a call of a number clears.
-fn cleared(number: u8) -> usize
-    ensures { result ≡ cond (eqb number 0) 32 0 }
+// A client's subscriptions are cleared.
+fn clear_client(pairs: &mut [Subscription; machine::PAIRS], client: usize)
+    requires { client < 8 }
+    ensures { pairs.new ≡ tabulate (λ p. cond (eqb (p / 32) client) states.no_subscription (get_or pairs.old p states.no_subscription)) 256 }
 {
-    if number == 0 { machine::SENSORS } else { 0 }
-}
-
-// The subscriptions without those of a client; as they were where the call is declined.
-fn without_client(
-    number: u8,
-    pairs: [Subscription; machine::PAIRS],
-    client: usize,
-) -> [Subscription; machine::PAIRS]
-    requires { number ≡ 0 → client < 8 }
-    ensures { result ≡ cond (eqb number 0) (tabulate (λ p. cond (eqb (p / 32) client) states.no_subscription (get_or pairs p states.no_subscription)) 256) pairs }
-{
-    let most = cleared(number);
-    let mut left = pairs;
-    let mut j: usize = 0;
-    while j < most {
-        left[client * machine::SENSORS + j] = machine::no_subscription();
-        j += 1;
+    for j in 0..machine::SENSORS {
+        pairs[client * machine::SENSORS + j] = machine::no_subscription();
     }
-    left
 }
 
-// The clients with `k` in a place; as they were where the call is declined.
-fn with_newcomer(
-    number: u8,
-    clients: [Client; machine::CLIENTS],
-    client: usize,
-    k: Client,
-) -> [Client; machine::CLIENTS]
-    requires { number ≡ 0 → client < 8 }
-    ensures { result ≡ cond (eqb number 0) (tabulate (λ i. cond (eqb i client) k (get_or clients i states.no_client)) 8) clients }
+// The answer of a call by which a client comes or goes: `k` in its place, no strategy and no report.
+fn with_client(written: usize, state: State, client: usize, k: Client) -> Answer
+    requires { client < 8 }
+    ensures { result ≡ record { number = 0; written = written; state = states.with_client state client k } }
 {
-    let mut next = clients;
-    if number == 0 {
-        next[client] = k;
-    }
-    next
-}
-
-// The answer of a call by which a client comes or goes: `k` in its place, no strategy and no report. A call that a row declines leaves the state.
-fn with_client(number: u8, written: usize, s: State, client: usize, k: Client) -> Answer
-    requires { number ≡ 0 → client < 8 }
-    ensures { result ≡ record { number = number; written = written; state = cond (eqb number 0) (states.with_client s client k) s } }
-{
-    let sheet = s.sheet;
-    let readings = s.readings;
-    let before = s.clients;
-    let pairs = s.subscriptions;
-    let clients = with_newcomer(number, before, client, k);
-    let left = without_client(number, pairs, client);
-    let next = State {
-        sheet: sheet,
-        clock: s.clock,
-        halted: s.halted,
-        level: s.level,
-        readings: readings,
-        clients: clients,
-        subscriptions: left,
-    };
+    let mut next = state;
+    next.clients[client] = k;
+    clear_client(&mut next.subscriptions, client);
     Answer {
-        number: number,
+        number: 0,
         written: written,
         state: next,
     }
@@ -189,14 +145,11 @@ fn greet_single(
     informs::deliver_versions(out, at, client as u8, b"version-connect", 0, sheet)
 }
 
-// What is written where a client connects: the versions to it, and its address to the others; nothing where the call is declined.
-fn greet(number: u8, state: State, client: usize, address: &[u8], out: &mut [u8]) -> usize
-    requires { number ≡ 0 → (client < 8) × (length address.now ≤ 48) }
-    ensures { Sent (output out.old 0) (cond (eqb number 0) (connect_sends state.sheet state client address.now) []) (output out.new result) }
+// What is written where a client connects: the versions to it, and its address to the others.
+fn greet(state: State, client: usize, address: &[u8], out: &mut [u8]) -> usize
+    requires { (client < 8) × (length address.now ≤ 48) }
+    ensures { Sent (output out.old 0) (connect_sends state.sheet state client address.now) (output out.new result) }
 {
-    if number != 0 {
-        return 0;
-    }
     let sheet = state.sheet;
     let clients = state.clients;
     if machine::is_single(sheet.profile) {
@@ -211,14 +164,15 @@ pub fn connect(state: State, client: usize, address: &[u8], out: &mut [u8]) -> A
     ensures value { result ≡ answer_of (step state (calls.call_of (calls.Connect client address.now) out.old)) }
     ensures out_after { out.new ≡ output_of (step state (calls.call_of (calls.Connect client address.now) out.old)) out.old }
 {
-    let sheet = state.sheet;
-    let clients = state.clients;
-    let profile = sheet.profile;
-    let refused = declining::is_connected(clients, client) & !machine::is_single(profile);
+    let profile = state.sheet.profile;
+    let refused = declining::is_connected(state.clients, client) & !machine::is_single(profile);
     let own = declining::client_rows(profile, refused, client, address_row(address));
-    let number = declining::rows(sheet::in_range(state), out.len(), state.halted, own);
-    let written = greet(number, state, client, address, out);
-    with_client(number, written, state, client, newcomer(number, address))
+    let rows = declining::rows(sheet::in_range(state), out.len(), state.halted, own);
+    if let Err(refusal) = rows {
+        return declining::silent(refusal, state);
+    }
+    let written = greet(state, client, address, out);
+    with_client(written, state, client, newcomer(address))
 }
 
 // A client is forgotten.
@@ -226,19 +180,13 @@ pub fn disconnect(state: State, client: usize, out: &mut [u8]) -> Answer
     ensures value { result ≡ answer_of (step state (calls.call_of (calls.Disconnect client) out.old)) }
     ensures out_after { out.new ≡ output_of (step state (calls.call_of (calls.Disconnect client) out.old)) out.old }
 {
-    let clients = state.clients;
-    let sheet = state.sheet;
-    let refused = !declining::is_connected(clients, client);
-    let own = declining::client_rows(sheet.profile, refused, client, 0);
-    let number = declining::rows(sheet::in_range(state), out.len(), state.halted, own);
-    with_client(number, 0, state, client, machine::blank_client())
-}
-
-// The clock after a tick to `ms`; as it was where the call is declined.
-fn clock_after(number: u8, ms: u64, clock: u64) -> u64
-    ensures { result ≡ cond (eqb number 0) ms clock }
-{
-    if number == 0 { ms } else { clock }
+    let refused = !declining::is_connected(state.clients, client);
+    let own = declining::client_rows(state.sheet.profile, refused, client, Ok(()));
+    let rows = declining::rows(sheet::in_range(state), out.len(), state.halted, own);
+    if let Err(refusal) = rows {
+        return declining::silent(refusal, state);
+    }
+    with_client(0, state, client, machine::blank_client())
 }
 
 // The clock is set, and every subscription visited.
@@ -247,116 +195,79 @@ pub fn tick(state: State, ms: u64, out: &mut [u8]) -> Answer
     ensures out_after { out.new ≡ output_of (step state (calls.call_of (calls.Tick ms) out.old)) out.old }
 {
     let own = tick_row(state.clock, ms);
-    let number = declining::rows(sheet::in_range(state), out.len(), state.halted, own);
-    let clock = clock_after(number, ms, state.clock);
-    let readings = state.readings;
-    sampling::visit(
-        number,
-        number == 0,
-        state,
-        Cause::Tick,
-        clock,
-        readings,
-        out,
-    )
+    let rows = declining::rows(sheet::in_range(state), out.len(), state.halted, own);
+    if let Err(refusal) = rows {
+        return declining::silent(refusal, state);
+    }
+    sampling::visit(state, Cause::Tick, ms, state.readings, out)
 }
 
 // Row 26: a reading of its own time at a clock.
-fn time_row(clock: u64, time: u64) -> u8
-    ensures { result ≡ cond (ltb clock time) 26 0 }
+fn time_row(clock: u64, time: u64) -> Result<(), Refusal>
+    ensures { number_in result ≡ cond (ltb clock time) 26 0 }
 {
-    if clock < time { 26 } else { 0 }
+    if clock < time {
+        Err(Refusal::ReadingAhead)
+    } else {
+        Ok(())
+    }
 }
 
-// Row 10, between the rows before it and the one behind it.
-fn sample_row(before: u8, sampled: Sampled, behind: u8) -> u8
-    ensures { result ≡ calls.rows_behind before (calls.rows_behind (sampled_number sampled) behind) }
+// The sample of a reading: row 10 where it is unfit, and row 26 behind it.
+fn sample_taken(sampled: Option<Sample>, ahead: Result<(), Refusal>) -> Result<Sample, Refusal>
+    ensures number { number_in result ≡ calls.rows_behind (sampled_number sampled) (number_in ahead) }
+    ensures sample { IfOk result (λ x. sampled ≡ Some x) }
 {
-    if before != 0 {
-        return before;
-    }
-    match sampled {
-        Sampled::As(_) => behind,
-        Sampled::Unfit => 10,
-    }
+    let sample = sampled.ok_or(Refusal::ReadingUnfit)?;
+    ahead?;
+    Ok(sample)
 }
 
 // Whether a sample is unknown.
 fn is_unknown(x: Sample) -> bool
     ensures { result ≡ states.is_unknown x }
 {
-    let kind = x.kind;
-    match kind {
-        0 => true,
-        1 => false,
-        2 => false,
-        3 => false,
-        4 => false,
-        _ => false,
-    }
+    matches!(x.kind, 0)
 }
 
-// Whether a reading of its own time supersedes the stored one; not where the call is declined.
-fn does_supersede(number: u8, old: Stored, time: u64) -> bool
-    ensures { result ≡ (eqb number 0 && states.supersedes time old) }
+// Whether a reading of its own time supersedes the stored one.
+fn does_supersede(old: Stored, time: u64) -> bool
+    ensures { result ≡ states.supersedes time old }
 {
-    (number == 0) & ((old.time <= time) | is_unknown(old.sample))
+    (old.time <= time) | is_unknown(old.sample)
 }
 
-// The readings with a sensor's, at its own time, where it supersedes the stored one; else as they were.
-fn store(
-    newer: bool,
-    readings: [Stored; machine::SENSORS],
-    sensor: usize,
-    sampled: Sampled,
-    time: u64,
-) -> [Stored; machine::SENSORS]
-    requires { sensor < 32 }
-    ensures { result ≡ cond newer (readings_after readings sensor sampled time) readings }
-{
-    let mut next = readings;
-    if newer {
-        if let Sampled::As(sample) = sampled {
-            next[sensor] = Stored {
-                sample: sample,
-                time: time,
-            };
-        }
-    }
-    next
-}
-
-// A sensor's reading that brings its own time, in milliseconds. It is stored, and the subscriptions to that sensor visited, where it supersedes the
-// stored one; an older one changes nothing. Where no sensor has that place, another's type is asked, and row 9 decides all the same.
+// A sensor's reading that brings its own time, in milliseconds. It is stored, and the subscriptions to that sensor visited, where it supersedes
+// the stored one; an older one changes nothing.
 pub fn reading(state: State, sensor: usize, reading: Reading, time: u64, out: &mut [u8]) -> Answer
     ensures value { result ≡ answer_of (step state (calls.call_of (calls.Reading sensor (calls.arrival reading time)) out.old)) }
     ensures out_after { out.new ≡ output_of (step state (calls.call_of (calls.Reading sensor (calls.arrival reading time)) out.old)) out.old }
 {
-    let sheet = state.sheet;
-    let stored = state.readings;
-    let own = sensor_row(sheet.count, sensor);
-    let before = declining::rows(sheet::in_range(state), out.len(), state.halted, own);
-    let place = sensor % machine::SENSORS;
-    let listed = sheet.sensors[place];
-    let old = stored[place];
+    let own = sensor_row(state.sheet.count, sensor);
+    let rows = declining::rows(sheet::in_range(state), out.len(), state.halted, own);
+    if let Err(refusal) = rows {
+        return declining::silent(refusal, state);
+    }
+    let listed = &state.sheet.sensors[sensor];
     let sampled = value::sample_of(listed.kind, listed.option_count, reading);
-    let number = sample_row(before, sampled, time_row(state.clock, time));
-    let newer = does_supersede(number, old, time);
-    let readings = store(newer, stored, place, sampled, time);
-    sampling::visit(
-        number,
-        newer,
-        state,
-        Cause::Reading(place),
-        state.clock,
-        readings,
-        out,
-    )
+    let sample = match sample_taken(sampled, time_row(state.clock, time)) {
+        Ok(sample) => sample,
+        Err(refusal) => return declining::silent(refusal, state),
+    };
+    let mut readings = state.readings;
+    if !does_supersede(readings[sensor], time) {
+        return Answer {
+            number: 0,
+            written: 0,
+            state: state,
+        };
+    }
+    readings[sensor] = Stored { sample, time };
+    sampling::visit(state, Cause::Reading(sensor), state.clock, readings, out)
 }
 
-// What is written of a log entry where the level is set to `set`; nothing where the call is declined.
+// What is written of a log entry where the level is set to `set`.
 fn put_entry(
-    number: u8,
     out: &mut [u8],
     clients: [Client; machine::CLIENTS],
     set: u8,
@@ -365,9 +276,9 @@ fn put_entry(
     logger: &[u8],
     message: &[u8],
 ) -> usize
-    ensures { Sent (output out.old 0) (cond (eqb number 0 && leb level set) (to_where (λ c. (get_or clients c states.no_client).connected) (log_entry level clock logger.now message.now)) []) (output out.new result) }
+    ensures { Sent (output out.old 0) (cond (leb level set) (to_where (λ c. (get_or clients c states.no_client).connected) (log_entry level clock logger.now message.now)) []) (output out.new result) }
 {
-    if (number == 0) & (level <= set) {
+    if level <= set {
         return informs::entry_to_all(out, clients, level, clock, logger, message);
     }
     0
@@ -379,10 +290,12 @@ pub fn log(state: State, level: u8, logger: &[u8], message: &[u8], out: &mut [u8
     ensures out_after { out.new ≡ output_of (step state (calls.call_of (calls.Log level logger.now message.now) out.old)) out.old }
 {
     let own = entry_row(level, logger, message);
-    let number = declining::rows(sheet::in_range(state), out.len(), state.halted, own);
+    let rows = declining::rows(sheet::in_range(state), out.len(), state.halted, own);
+    if let Err(refusal) = rows {
+        return declining::silent(refusal, state);
+    }
     let clients = state.clients;
     let written = put_entry(
-        number,
         out,
         clients,
         state.level,
@@ -392,7 +305,7 @@ pub fn log(state: State, level: u8, logger: &[u8], message: &[u8], out: &mut [u8
         message,
     );
     Answer {
-        number: number,
+        number: 0,
         written: written,
         state: state,
     }

@@ -1,9 +1,7 @@
 -- Bytes in lower-case hex: two digits a byte, `-` for no bytes.
-use Rattle.std.specs.Prelude.{ℕ, ◌+◌, ◌-◌, ◌*◌, ◌/◌, ◌%◌, Bool, cond, ◌&&◌, ◌||◌, List, [], ◌∷◌, eqb, leb, ltb, length}
+use Rattle.std.specs.Prelude.{ℕ, ◌+◌, ◌-◌, ◌*◌, ◌/◌, ◌%◌, Bool, cond, ◌&&◌, ◌||◌, List, [], ◌∷◌, eqb, leb, ltb, length, Some, None, Option}
 use Prim.Native.Char.{code}
 use Rattle.output.specs.Text.{text, same, is_digit, all}
-use Rattle.in_hex.specs.declared.Bits.{Bits}
-use Rattle.in_hex.specs.declared.Bits.TheVariants.{Are, Bad}
 
 -- a letter of lower-case hex
 abbrev pub is_hex_letter : ℕ → Bool
@@ -33,8 +31,8 @@ hex_from a [] = a
 hex_from a (b ∷ s) = hex_from (a * 16 + hex_value b) s
 
 -- 64 bits: 16 digits
-unfoldable pub bits_of : List ℕ → Bits
-bits_of t = cond (eqb (length t) 16 && all is_hex t) (Are (hex_from 0 t)) Bad
+unfoldable pub bits_of : List ℕ → Option ℕ
+bits_of t = cond (eqb (length t) 16 && all is_hex t) (Some (hex_from 0 t)) None
 
 -- the digit of a number below 16
 unfoldable pub hex_digit : ℕ → ℕ

@@ -6,19 +6,13 @@ ghost use Rattle.output.specs.Output.{output, Wrote};
 ghost use Rattle.output.specs.Text.{all};
 ghost use Rattle.in_hex.specs.Hex as spec;
 
-// 64 bits, or that a word has not as many digits.
-#[derive(Clone, Copy)]
-pub enum Bits {
-    Are(u64),
-    Bad,
-}
-
 fn is_hex_letter(b: u8) -> bool
     ensures { result ≡ spec.is_hex_letter b }
 {
-    (b'a' <= b) & (b <= b'f')
+    matches!(b, b'a'..=b'f')
 }
 
+#[tactic(auto, unfolding(crate::specs::Hex::is_hex))]
 fn is_hex(b: u8) -> bool
     ensures { result ≡ spec.is_hex b }
 {
@@ -26,36 +20,30 @@ fn is_hex(b: u8) -> bool
 }
 
 // The number of a hex digit, 0 for every other byte.
+#[tactic(auto, unfolding(crate::specs::Hex::hex_value, output::specs::Text::is_digit))]
 fn hex_value(b: u8) -> u8
     ensures { (result ≡ spec.hex_value b) × (result < 16) }
 {
-    if texts::is_digit(b) {
-        return b - b'0';
+    match b {
+        b'0'..=b'9' => b - b'0',
+        b'a'..=b'f' => b - b'a' + 10,
+        _ => 0,
     }
-    if is_hex_letter(b) {
-        return b - b'a' + 10;
-    }
-    0
 }
 
 // Whether each byte is a hex digit.
 fn all_hex(t: &[u8]) -> bool
     ensures { result ≡ all spec.is_hex t.now }
 {
-    let mut ok = true;
-    let mut i = 0;
-    while i < t.len() {
-        ok = ok & is_hex(t[i]);
-        i += 1;
-    }
-    ok
+    t.iter().all(|b| is_hex(*b))
 }
 
 // Whether a word stands for bytes.
+#[tactic(auto, unfolding(crate::specs::Hex::is_bytes), using(texts::proofs::SameLaws::same_bytes))]
 pub fn is_bytes(t: &[u8]) -> bool
     ensures { result ≡ spec.is_bytes t.now }
 {
-    texts::same(t, b"-") | ((2 <= t.len()) & ((t.len() % 2 == 0) & all_hex(t)))
+    (t == b"-".as_slice()) | ((2 <= t.len()) & ((t.len() % 2 == 0) & all_hex(t)))
 }
 
 // The byte of two hex digits.
@@ -70,15 +58,14 @@ pub fn put_bytes_of(into: &mut [u8], at: usize, t: &[u8]) -> usize
     ensures { Wrote (output into.old at) (spec.bytes_of t.now) (output into.new result) }
 {
     let mut p = at;
-    let mut i = 0;
-    while i + 1 < t.len() {
-        p = output::put_byte(into, p, byte_of(t[i], t[i + 1]));
-        i += 2;
+    for pair in t.chunks_exact(2) {
+        p = output::put_byte(into, p, byte_of(pair[0], pair[1]));
     }
     p
 }
 
 // The digit of a number below 16.
+#[tactic(auto, unfolding(crate::specs::Hex::hex_digit))]
 fn hex_digit(n: u8) -> u8
     requires { n < 16 }
     ensures { result ≡ spec.hex_digit n }
@@ -91,21 +78,19 @@ fn put_hexed(into: &mut [u8], at: usize, bytes: &[u8]) -> usize
     ensures { Wrote (output into.old at) (spec.hexed bytes.now) (output into.new result) }
 {
     let mut p = at;
-    let mut i = 0;
-    while i < bytes.len() {
-        let b = bytes[i];
-        p = output::put_byte(into, p, hex_digit(b / 16));
-        p = output::put_byte(into, p, hex_digit(b % 16));
-        i += 1;
+    for b in bytes {
+        p = output::put_byte(into, p, hex_digit(*b / 16));
+        p = output::put_byte(into, p, hex_digit(*b % 16));
     }
     p
 }
 
 // Bytes in hex, `-` for none.
+#[tactic(auto, unfolding(crate::specs::Hex::hex_text))]
 pub fn put_text(into: &mut [u8], at: usize, bytes: &[u8]) -> usize
     ensures { Wrote (output into.old at) (spec.hex_text bytes.now) (output into.new result) }
 {
-    if bytes.len() == 0 {
+    if bytes.is_empty() {
         return output::put_bytes(into, at, b"-");
     }
     put_hexed(into, at, bytes)
@@ -117,23 +102,16 @@ fn number_of(t: &[u8]) -> u64
     ensures { result ≡ spec.hex_from 0 t.now }
 {
     let mut n: u64 = 0;
-    let mut i = 0;
-    while i < t.len() {
-        n = n * 16 + hex_value(t[i]) as u64;
-        i += 1;
+    for b in t {
+        n = n * 16 + hex_value(*b) as u64;
     }
     n
 }
 
 // 64 bits, of 16 hex digits.
-pub fn read_bits(t: &[u8]) -> Bits
+#[tactic(auto, unfolding(crate::specs::Hex::bits_of))]
+pub fn read_bits(t: &[u8]) -> Option<u64>
     ensures { result ≡ spec.bits_of t.now }
 {
-    if t.len() != 16 {
-        return Bits::Bad;
-    }
-    if !all_hex(t) {
-        return Bits::Bad;
-    }
-    Bits::Are(number_of(t))
+    (t.len() == 16 && all_hex(t)).then(|| number_of(t))
 }

@@ -3,7 +3,8 @@ use Prim.Native.Nat.{ℕ, ◌+◌, ◌<◌, ◌≤◌}
 use native.Mathlib.Omega.{arith}
 use native.Mathlib.Numerals.{add-one}
 use mathlib.Core.Path.{◌≡◌}
-use mathlib.Core.Bool.{Bool}
+use mathlib.Core.Bool.{Bool, true, false}
+use mathlib.Core.List.{[], ◌∷◌}
 use Rattle.output.specs.Output.{Output}
 use Rattle.message.specs.Message.{Message}
 use Rattle.message.specs.Delivery.{to, Sent}
@@ -21,9 +22,17 @@ unfolding gather
 serving is m p = record { inside = omega arith; sent = none_sent }
 
 module _ {is : ℕ → Bool} {m : Message} {p q : Output} {c : ℕ} (s : Serving is m p c q) where
-  pub serving_on : {r : Output} → c < 8 → Sent q (one_if (is c) (to c m)) r → Serving is m p (c + 1) r
+  serving_on : {r : Output} → c < 8 → Sent q (one_if (is c) (to c m)) r → Serving is m p (c + 1) r
   unfolding gather
   serving_on h e = record { inside = omega arith; sent = rw add-one (and s.sent e) }
+
+  -- client c gets it
+  pub serving_told : {r : Output} → c < 8 → is c ≡ true → Sent q (to c m ∷ []) r → Serving is m p (c + 1) r
+  serving_told h t e = serving_on h (rw t e)
+
+  -- client c gets nothing
+  pub serving_passed : c < 8 → is c ≡ false → Serving is m p (c + 1) q
+  serving_passed h t = serving_on h (rw t none_sent)
 
   pub served : 8 ≤ c → Sent p (to_where is m) q
   unfolding to_where

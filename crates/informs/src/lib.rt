@@ -6,7 +6,6 @@ ghost use Rattle.std.specs.Prelude.{◌≡◌, not, ◌&&◌, [], ◌∷◌, eqb
 ghost use Rattle.output.specs.Output.{output, Wrote};
 ghost use Rattle.message.specs.Message.{arg, line};
 ghost use Rattle.message.specs.Delivery.{to, Sent};
-ghost use Rattle.machine.specs.Places.{one_if};
 ghost use Rattle.machine.specs.State.{no_client};
 ghost use Rattle.machine.specs.Messages as messages;
 ghost use Rattle.machine.specs.Requests.{level_of};
@@ -124,25 +123,6 @@ pub fn deliver_entry(
     p + n
 }
 
-// A log entry to a client that is there.
-fn entry_if(
-    there: bool,
-    out: &mut [u8],
-    at: usize,
-    client: u8,
-    level: u8,
-    clock: u64,
-    logger: &[u8],
-    said: &[u8],
-) -> usize
-    ensures { Sent (output out.old at) (one_if there (to client (messages.log_entry level clock logger.now said.now))) (output out.new result) }
-{
-    if there {
-        return deliver_entry(out, at, client, level, clock, logger, said);
-    }
-    at
-}
-
 // A log entry to all connected clients, from the start of out.
 pub fn entry_to_all(
     out: &mut [u8],
@@ -155,30 +135,10 @@ pub fn entry_to_all(
     ensures { Sent (output out.old 0) (messages.to_where (λ c. (get_or clients c no_client).connected) (messages.log_entry level clock logger.now said.now)) (output out.new result) }
 {
     let mut at: usize = 0;
-    let mut c: usize = 0;
-    while c < machine::CLIENTS {
-        let client = clients[c];
-        at = entry_if(
-            client.connected,
-            out,
-            at,
-            c as u8,
-            level,
-            clock,
-            logger,
-            said,
-        );
-        c += 1;
-    }
-    at
-}
-
-// An inform with one argument to a client that is there.
-fn inform_if(there: bool, out: &mut [u8], at: usize, client: u8, name: &[u8], a: &[u8]) -> usize
-    ensures { Sent (output out.old at) (one_if there (to client (messages.inform name.now (a.now ∷ [])))) (output out.new result) }
-{
-    if there {
-        return message::deliver_one(out, at, client, b'#', name, 0, a);
+    for (c, client) in clients.iter().enumerate() {
+        if client.connected {
+            at = deliver_entry(out, at, c as u8, level, clock, logger, said);
+        }
     }
     at
 }
@@ -195,11 +155,10 @@ pub fn inform_others(
     ensures { Sent (output out.old at) (messages.to_where (λ c. (get_or clients c no_client).connected && not (eqb c but)) (messages.inform name.now (a.now ∷ []))) (output out.new result) }
 {
     let mut p = at;
-    let mut c: usize = 0;
-    while c < machine::CLIENTS {
-        let client = clients[c];
-        p = inform_if(client.connected & (c != but), out, p, c as u8, name, a);
-        c += 1;
+    for (c, client) in clients.iter().enumerate() {
+        if client.connected & (c != but) {
+            p = message::deliver_one(out, p, c as u8, b'#', name, 0, a);
+        }
     }
     p
 }

@@ -4,7 +4,8 @@ use native.Mathlib.Omega.{arith}
 use mathlib.Core.Path.{◌≡◌, refl, sym, ap, ◌∙◌}
 use mathlib.Core.Bool.{Bool, true, false, cond}
 use mathlib.Core.List.{List}
-use mathlib.Core.Option.{Option, none, some}
+use Rattle.std.specs.Prelude.{Option, None, Some, Result, Ok, Err}
+use Rattle.std.specs.Result.{OkIff, result_ok}
 use borrow.Author.Tests.{ltb-true, ltb-false}
 use lib.Dec.{ltb}
 use lib.IntN.{ℤ, pos, negsuc, ◌-ℤ◌}
@@ -14,18 +15,15 @@ use mir.ValLaws.{to_z_pos, to_z-of_z}
 use Rattle.output.specs.Read.{read_integer}
 use Rattle.output.proofs.ReadBack.{integers}
 use Rattle.value.proofs.SignedLaws.{widens}
-use Rattle.numbers.specs.declared.Number.TheVariants.{Is, Bad}
-use Rattle.numbers.specs.Number.{number_of}
-use Rattle.input.specs.declared.Integer.TheVariants as signed
 use Rattle.input.specs.Words.{signed_of, integer_of}
 
-pub no_integer : (o : Option ℕ) → Bad ≡ number_of o → signed.Bad ≡ integer_of o
-no_integer none e = refl
-no_integer (some v) e = let z : ◌≡◌ {A = ℕ} 0 1 = cc in absurd (omega arith)
+pub no_integer : (o : Option ℕ) → None ≡ o → None ≡ integer_of o
+no_integer None e = refl
+no_integer (Some v) e = let z : ◌≡◌ {A = ℕ} 0 1 = cc in absurd (omega arith)
 
-is_some : (o : Option ℕ) (v : ℕ) → Is v ≡ number_of o → o ≡ some v
-is_some none v e = let z : ◌≡◌ {A = ℕ} 0 1 = cc in absurd (omega arith)
-is_some (some x) v e = cc
+is_some : (o : Option ℕ) (v : ℕ) → Some v ≡ o → o ≡ Some v
+is_some None v e = let z : ◌≡◌ {A = ℕ} 0 1 = cc in absurd (omega arith)
+is_some (Some x) v e = cc
 
 signed_fits : (v : ℕ) → v < 2 ^ 32 → SFits w32 (signed_of v)
 signed_fits v h = go (ltb v (2 ^ 31)) refl
@@ -34,7 +32,7 @@ signed_fits v h = go (ltb v (2 ^ 31)) refl
     go true e = let l = ltb-true v (2 ^ 31) e in record { sfits = omega arith }
     go false e = let l = ltb-false v (2 ^ 31) e in record { sfits = omega arith }
 
-module _ (t : List ℕ) (v : ℕ) (e : Is v ≡ number_of (read_integer t)) where
+module _ (t : List ℕ) (v : ℕ) (e : Some v ≡ read_integer t) where
   below : v < 2 ^ 32
   below = ltb-true v (2 ^ 32) (integers.only t v (is_some (read_integer t) v e)).0
 
@@ -53,5 +51,10 @@ module _ (t : List ℕ) (v : ℕ) (e : Is v ≡ number_of (read_integer t)) wher
   pub narrow_fits : SFits w32 (to_z w64 (of_z w64 (to_z w64 v -ℤ pos (2 ^ 31))))
   narrow_fits = rw stored_is (signed_fits v below)
 
-  pub integer_is : signed.Is (to_z w32 (of_z w32 (to_z w64 (of_z w64 (to_z w64 v -ℤ pos (2 ^ 31)))))) ≡ integer_of (read_integer t)
-  integer_is = ap signed.Is (to_z-of_z w32 (to_z w64 (of_z w64 (to_z w64 v -ℤ pos (2 ^ 31)))) narrow_fits ∙ stored_is) ∙ ap integer_of (sym (is_some (read_integer t) v e))
+  pub integer_is : Some (to_z w64 (of_z w64 (to_z w64 v -ℤ pos (2 ^ 31)))) ≡ integer_of (read_integer t)
+  integer_is = ap Some stored_is ∙ ap integer_of (sym (is_some (read_integer t) v e))
+
+-- a number that fits is converted
+pub converted : {A E : Type 0} (r : Result A E) (P : Type 0) (x : A) → OkIff r P x → P → result_ok r ≡ Some x
+converted (Ok y) P x o p = ap Some o.1
+converted (Err e) P x o p = absurd (o p)

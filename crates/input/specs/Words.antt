@@ -1,12 +1,9 @@
 -- The lines that the programs read: words with one space between them, and numbers among the words.
-use Rattle.std.specs.Prelude.{ℕ, zero, suc, ◌-◌, ◌^◌, Bool, cond, ◌&&◌, List, [], ◌∷◌, eqb, ltb, ℤ, pos, negsuc}
+use Rattle.std.specs.Prelude.{ℕ, zero, suc, ◌-◌, ◌^◌, Bool, cond, ◌&&◌, List, [], ◌∷◌, eqb, ltb, ℤ, pos, negsuc, Some, None, Option}
 use Prim.Native.Char.{code}
-use Rattle.std.proofs.Math.Option.{Option, none, some}
 use Rattle.output.specs.Text.{is_digit, all, same}
 use Rattle.output.specs.Read.{up_to, past}
 use Rattle.value.specs.Parameter.{whole_ok}
-use Rattle.input.specs.declared.Integer.{Integer}
-use Rattle.input.specs.declared.Integer.TheVariants.{Is, Bad}
 
 -- what stands behind the first k spaces of a line
 abbrev pub behind_spaces : ℕ → List ℕ → List ℕ
@@ -35,6 +32,6 @@ abbrev pub signed_of : ℕ → ℤ
 signed_of v = cond (ltb v (2 ^ 31)) (negsuc (2 ^ 31 - suc v)) (pos (v - 2 ^ 31))
 
 -- a signed number that was read, or none
-abbrev pub integer_of : Option ℕ → Integer
-integer_of none = Bad
-integer_of (some v) = Is (signed_of v)
+abbrev pub integer_of : Option ℕ → Option ℤ
+integer_of None = None
+integer_of (Some v) = Some (signed_of v)

@@ -1,64 +1,23 @@
 -- What the answers of this crate's functions say, in the terms of machine's Opening: `broken`, or what is taken and the bytes behind it.
-use Rattle.std.specs.Prelude.{ℕ, ◌-◌, ◌≤◌, cond, List, ◌++◌, length, take, drop, replicate}
+use Rattle.std.specs.Prelude.{ℕ, ◌-◌, List, ◌++◌, length, replicate, Option, Some, None}
+use Rattle.std.specs.Borrow.{Bor}
 use Rattle.value.specs.declared.Limits.{Limits}
 use Rattle.machine.specs.declared.Choice.{Choice}
 use Rattle.machine.specs.declared.Sensor.{Sensor}
 use Rattle.machine.specs.declared.Sheet.{Sheet}
 use Rattle.machine.specs.State.{blank_sensor}
 use Rattle.machine.specs.Opening.{Taken, broken, taken, and_then, with_limits, with_options}
-use Rattle.layout.specs.declared.Cursor.{Cursor}
-use Rattle.layout.specs.declared.ByteTaken.{ByteTaken}
-use Rattle.layout.specs.declared.ByteTaken.TheVariants.{Byte, NoByte}
-use Rattle.layout.specs.declared.TextTaken.{TextTaken}
-use Rattle.layout.specs.declared.TextTaken.TheVariants.{Span, NoText}
-use Rattle.layout.specs.declared.NumberTaken.{NumberTaken}
-use Rattle.layout.specs.declared.NumberTaken.TheVariants.{Number, NoNumber}
-use Rattle.layout.specs.declared.LimitsTaken.{LimitsTaken}
-use Rattle.layout.specs.declared.LimitsTaken.TheVariants.{These, NoLimits}
-use Rattle.layout.specs.declared.ChoiceTaken.{ChoiceTaken}
-use Rattle.layout.specs.declared.SensorTaken.{SensorTaken}
-use Rattle.layout.specs.declared.SheetTaken.{SheetTaken}
 
--- the bytes behind a cursor
-abbrev pub behind : List ℕ → Cursor → List ℕ
-behind s c = drop c.at s
+module _ {A : Type 0} where
+  -- a value and the bytes that follow it
+  abbrev pub read : Option (A × Bor (List ℕ)) → Taken A
+  read (Some x) = taken x.0 x.1.now
+  read None = broken
 
--- a byte
-abbrev pub byte_of : List ℕ → ByteTaken → Taken ℕ
-byte_of s (Byte b c) = taken b (behind s c)
-byte_of s NoByte = broken
-
--- the bytes from one place up to another
-abbrev pub text_of : List ℕ → TextTaken → Taken (List ℕ)
-text_of s (Span a e) = taken (take (e - a) (drop a s)) (drop e s)
-text_of s NoText = broken
-
--- these places are in the sheet
-abbrev pub Within : List ℕ → TextTaken → Type 0
-Within s (Span a e) = (a ≤ e) × (e ≤ length s)
-Within s NoText = Unit
-
--- a number
-abbrev pub number_of : List ℕ → NumberTaken → Taken ℕ
-number_of s (Number n c) = taken n (behind s c)
-number_of s NoNumber = broken
-
--- limits
-abbrev pub limits_of : List ℕ → LimitsTaken → Taken Limits
-limits_of s (These l c) = taken l (behind s c)
-limits_of s NoLimits = broken
-
--- an option
-abbrev pub choice_of : List ℕ → ChoiceTaken → Taken Choice
-choice_of s r = cond r.taken (taken r.choice (behind s r.behind)) broken
-
--- a sensor
-abbrev pub sensor_of : List ℕ → SensorTaken → Taken Sensor
-sensor_of s r = cond r.taken (taken r.sensor (behind s r.behind)) broken
-
--- a sheet
-abbrev pub sheet_of : List ℕ → SheetTaken → Taken Sheet
-sheet_of s r = cond r.taken (taken r.sheet (behind s r.behind)) broken
+-- a text and the bytes that follow it
+abbrev pub read_text : Option (Bor (List ℕ) × Bor (List ℕ)) → Taken (List ℕ)
+read_text (Some x) = taken x.0.now x.1.now
+read_text None = broken
 
 -- a sensor with the options that were read
 abbrev pub taken_options : Sensor → Taken (List Choice) → Taken Sensor

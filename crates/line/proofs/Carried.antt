@@ -1,4 +1,5 @@
 -- What whoever reads a line learns of its message: the arguments by their places, and where the name stands.
+use Rattle.std.specs.Prelude.{None, Some, Option}
 use Prim.Native.Nat.{ℕ, suc, ◌+◌, ◌≤◌}
 use mathlib.Core.Path.{◌≡◌, refl, sym, ap, ◌∙◌}
 use mathlib.Core.Bool.{Bool, true, false, not, cond, ◌&&◌}
@@ -9,9 +10,6 @@ use lib.ListN.{length, take, drop, get_or, get_or-map, take-append-drop}
 use Rattle.output.proofs.RunLaws.{run_le, run_take}
 use Rattle.message.specs.Message.{Message}
 use Rattle.line.specs.declared.Header.{Header}
-use Rattle.line.specs.declared.Parsed.TheVariants as P
-use Rattle.line.specs.declared.Identifier.{Identifier}
-use Rattle.line.specs.declared.Identifier.TheVariants.{Bad, Is}
 use Rattle.line.specs.Line.{Parse, message, malformed, parse, unescape, word_byte, word, behind, name_of, title_byte, kind_byte, blank, id_of, after_name, name_ok, with_id, read_head, line_size, all_valid}
 use Rattle.line.specs.Argument.{argument}
 use Rattle.line.specs.Answer.{answer, header}
@@ -32,9 +30,9 @@ record FromHead (w : List ℕ) (ws : List (List ℕ)) (m : Message) : Type 0 whe
 no : {A : Type 0} {m : Message} → malformed ≡ message m → A
 no e = absurd (let z : ◌≡◌ {A = ℕ} 0 1 = cc in omega arith)
 
-of_id : (k : ℕ) (n : List ℕ) (i : Identifier) (ws : List (List ℕ)) (m : Message) → with_id k n i ws ≡ message m → (m.args ≡ map unescape ws) × (m.name ≡ n)
-of_id k n Bad ws m e = no e
-of_id k n (Is i) ws m e =
+of_id : (k : ℕ) (n : List ℕ) (i : Option ℕ) (ws : List (List ℕ)) (m : Message) → with_id k n i ws ≡ message m → (m.args ≡ map unescape ws) × (m.name ≡ n)
+of_id k n None ws m e = no e
+of_id k n (Some i) ws m e =
     let q : record { kind = k; name = n; id = i; args = map unescape ws } ≡ m = cc in
     (ap (λ (x : Message). x.args) (sym q), ap (λ (x : Message). x.name) (sym q))
 
@@ -87,10 +85,10 @@ carries s m e =
     }
 
 -- the code's answer is a message's header
-pub carried : (s : List ℕ) (h : Header) → answer (parse s) ≡ P.Message h → (m : Message) × Carries s m × (h ≡ header m)
+pub carried : (s : List ℕ) (h : Header) → answer (parse s) ≡ Some h → (m : Message) × Carries s m × (h ≡ header m)
 carried s h e = go (parse s) refl e
   where
-    go : (p : Parse) → parse s ≡ p → answer p ≡ P.Message h → (m : Message) × Carries s m × (h ≡ header m)
+    go : (p : Parse) → parse s ≡ p → answer p ≡ Some h → (m : Message) × Carries s m × (h ≡ header m)
     go malformed q e = absurd (let z : ◌≡◌ {A = ℕ} 0 1 = cc in omega arith)
     go (message m) q e = (m, carries s m q, cc)
 

@@ -1,5 +1,4 @@
 pub mod UnescapeLaws
-pub mod IdLaws
 pub mod WordLaws
 pub mod HeadLaws
 pub mod CopyLaws

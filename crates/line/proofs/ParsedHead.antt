@@ -1,4 +1,5 @@
 -- What is known of a message that a line was read as.
+use Rattle.std.specs.Prelude.{None, Some, Option}
 use Prim.Native.Nat.{ℕ, ◌+◌, ◌-◌, ◌*◌, ◌≤◌}
 use Prim.Native.Char.{code}
 use native.Mathlib.Omega.{arith}
@@ -10,8 +11,6 @@ use lib.ListN.{length}
 use borrow.Author.Tests.{leb-true}
 use Rattle.output.specs.Text.{is_digit, all}
 use Rattle.message.specs.Message.{Message}
-use Rattle.line.specs.declared.Identifier.{Identifier}
-use Rattle.line.specs.declared.Identifier.TheVariants.{Bad, Is}
 use Rattle.line.specs.Line.{Parse, malformed, message, blank, kind_byte, title_byte, name_ok, name_of, after_name, id_from, id_of, with_id, read_named, read_head, line_size, all_valid, behind, word, parse, blank_line}
 use Rattle.output.proofs.RunLaws.{run_all}
 
@@ -26,16 +25,16 @@ abbrev HasHead : Parse → Type 0
 HasHead malformed = Unit
 HasHead (message m) = Head m
 
-abbrev Small : Identifier → Type 0
-Small Bad = Unit
-Small (Is i) = i ≤ 2147483647
+abbrev Small : Option ℕ → Type 0
+Small None = Unit
+Small (Some i) = i ≤ 2147483647
 
 id_small : (n : ℕ) (s : List ℕ) → n ≤ 2147483647 → Small (id_from n s)
 id_small n [] h = tt
 id_small n (b ∷ s) h = go (is_digit b) (leb 1 (n * 10 + (b - code "0"))) (leb (n * 10 + (b - code "0")) 2147483647) (eqb b (code "]") && (leb 1 n && eqb (length s) 0)) refl (id_small (n * 10 + (b - code "0")) s)
   where
     go : (t u v w : Bool) → leb (n * 10 + (b - code "0")) 2147483647 ≡ v → (n * 10 + (b - code "0") ≤ 2147483647 → Small (id_from (n * 10 + (b - code "0")) s))
-        → Small (cond t (cond (u && v) (id_from (n * 10 + (b - code "0")) s) Bad) (cond w (Is n) Bad))
+        → Small (cond t (cond (u && v) (id_from (n * 10 + (b - code "0")) s) None) (cond w (Some n) None))
     go true true true w e ih = ih (leb-true (n * 10 + (b - code "0")) 2147483647 e)
     go true true false w e ih = tt
     go true false v w e ih = tt
@@ -46,16 +45,16 @@ id_most : (s : List ℕ) → Small (id_of s)
 id_most [] = omega arith
 id_most (b ∷ s) = go (eqb b (code "["))
   where
-    go : (t : Bool) → Small (cond t (id_from 0 s) Bad)
+    go : (t : Bool) → Small (cond t (id_from 0 s) None)
     go true = id_small 0 s (omega arith)
     go false = tt
 
 named_head : (k : ℕ) (t : List ℕ) (ws : List (List ℕ)) → kind_byte k ≡ true → HasHead (read_named k t ws)
 named_head k t ws h = go (name_ok (name_of t)) refl (id_of (after_name t)) (id_most (after_name t))
   where
-    go : (b : Bool) → name_ok (name_of t) ≡ b → (i : Identifier) → Small i → HasHead (cond b (with_id k (name_of t) i ws) malformed)
-    go true e Bad small = tt
-    go true e (Is i) small = record { kind = h; letters = run_all title_byte t; name = e; id = small }
+    go : (b : Bool) → name_ok (name_of t) ≡ b → (i : Option ℕ) → Small i → HasHead (cond b (with_id k (name_of t) i ws) malformed)
+    go true e None small = tt
+    go true e (Some i) small = record { kind = h; letters = run_all title_byte t; name = e; id = small }
     go false e i small = tt
 
 head_head : (w : List ℕ) (ws : List (List ℕ)) → HasHead (read_head w ws)

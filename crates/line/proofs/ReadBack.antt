@@ -1,4 +1,5 @@
 -- A written message reads back as itself: its words are the head and the arguments as they are written, and each reads back.
+use Rattle.std.specs.Prelude.{Some}
 use Prim.Native.Nat.{ℕ, zero, suc, ◌+◌, ◌-◌, ◌*◌, ◌/◌, ◌%◌, ◌≤◌, ◌<◌}
 use mathlib.Core.Path.{◌≡◌, refl, sym, ap, subst, ◌∙◌}
 use mathlib.Core.List.{List, [], ◌∷◌, ◌++◌, map, append-nil, append_assoc}
@@ -11,7 +12,6 @@ use Rattle.output.specs.Number.{decimal}
 use Rattle.output.proofs.NumberLaws.{decimal_small, decimal_step}
 use Rattle.message.specs.Message.{Message, escape_byte, escape_all, escape, arg, args_text, id_text, write_to, write}
 use Rattle.line.specs.declared.Meaning.TheVariants.{Byte}
-use Rattle.line.specs.declared.Identifier.TheVariants.{Is}
 use Rattle.output.specs.Text.{is_digit, all}
 use Rattle.output.proofs.TextLaws.{digit_is}
 use Rattle.output.proofs.RunLaws as run
@@ -195,7 +195,7 @@ record Bracketed (i : ℕ) (t : List ℕ) : Type 0 where
   unnamed : name_of t ≡ []
   stays : after_name t ≡ t
   tidy : clean t ≡ true
-  reads : id_of t ≡ Is i
+  reads : id_of t ≡ Some i
 
 positive : (i : ℕ) → (i ≡ 0 → ⊥) → 1 ≤ i
 positive i ne = omega arith
@@ -206,12 +206,12 @@ bracketed i h = go (eqb i 0) refl
   where
     go : (t : Bool) → eqb i 0 ≡ t → Bracketed i (cond t [] (91 ∷ (decimal i ++ (93 ∷ []))))
     go true e =
-        record { unnamed = refl; stays = refl; tidy = refl; reads = ap Is (sym (eqb-true i 0 e)) }
+        record { unnamed = refl; stays = refl; tidy = refl; reads = ap Some (sym (eqb-true i 0 e)) }
     go false e =
         let lo : 1 ≤ i = positive i (eqb-false i 0 e) in
         let f : leb 1 i ≡ true = le-leb 1 i lo in
         let d = digits i i (omega arith) lo h in
-        let r : id_from i (93 ∷ []) ≡ Is i = rw f in
+        let r : id_from i (93 ∷ []) ≡ Some i = rw f in
         record { unnamed = refl; stays = refl; tidy = d.tidy (93 ∷ []); reads = d.reads (93 ∷ []) ∙ r }
 
 head_reads : (k i : ℕ) (n : List ℕ) (xs : List (List ℕ)) → kind_byte k ≡ true → all title_byte n ≡ true → name_ok n ≡ true → i ≤ 2147483647

@@ -1,8 +1,6 @@
 -- The arguments of a line by their places.
-use Rattle.std.specs.Prelude.{ℕ, cond, List, [], leb, length, get_or}
+use Rattle.std.specs.Prelude.{ℕ, cond, List, [], leb, length, get_or, Some, None, Option}
 use Rattle.output.specs.Output.{laid}
-use Rattle.line.specs.declared.Copied.{Copied}
-use Rattle.line.specs.declared.Copied.TheVariants.{Whole, Short}
 use Rattle.line.specs.Line.{unescape, behind}
 
 -- the text of argument k, empty where there is none
@@ -10,8 +8,8 @@ abbrev pub argument : List ℕ → ℕ → List ℕ
 argument s k = unescape (get_or (behind s) k [])
 
 -- a text copied into a buffer: its length, or that the buffer is too short
-unfoldable pub copied : List ℕ → List ℕ → Copied
-copied t into = cond (leb (length t) (length into)) (Whole (length t)) Short
+unfoldable pub copied : List ℕ → List ℕ → Option ℕ
+copied t into = cond (leb (length t) (length into)) (Some (length t)) None
 
 -- the buffer then: the text at its start; as it was where it is too short
 unfoldable pub copied_into : List ℕ → List ℕ → List ℕ

@@ -1,5 +1,4 @@
 pub mod Line
 pub mod Argument
 pub mod Answer
-pub mod Words
 pub mod Edges

@@ -1,5 +1,5 @@
 -- How a line is read (document 01, "Message lines"). A line is the list of its bytes, without its end.
-use Rattle.std.specs.Prelude.{ℕ, ◌+◌, ◌-◌, ◌*◌, ◌≤◌, ◌≡◌, List, [], ◌∷◌, ◌++◌, map, Bool, true, false, not, cond, ◌&&◌, ◌||◌, length, eqb, leb}
+use Rattle.std.specs.Prelude.{ℕ, ◌+◌, ◌-◌, ◌*◌, ◌≤◌, ◌≡◌, List, [], ◌∷◌, ◌++◌, map, Bool, true, false, not, cond, ◌&&◌, ◌||◌, length, eqb, leb, None, Some, Option}
 use Prim.Native.Char.{code}
 use Rattle.output.specs.Text.{is_digit, all, run, behind_run}
 unfoldable pub use Rattle.texts.specs.Class.{blank, letter, title_byte}
@@ -7,8 +7,6 @@ pub use Rattle.texts.specs.Class.{word_byte}
 use Rattle.message.specs.Message.{Message, Escape, escapes, write}
 use Rattle.line.specs.declared.Meaning.{Meaning}
 use Rattle.line.specs.declared.Meaning.TheVariants.{Byte, Nothing, Unknown}
-use Rattle.line.specs.declared.Identifier.{Identifier}
-use Rattle.line.specs.declared.Identifier.TheVariants.{Bad, Is}
 
 -- a line is a message, or it is no message
 pub data Parse : Type 0 where
@@ -117,24 +115,24 @@ abbrev pub name_ok : List ℕ → Bool
 name_ok n = leb (length n) 64 && starts_with_letter n
 
 -- the digits up to the `]` that ends the list, with n read so far: "id 1 to 2,147,483,647 without leading zero"
-abbrev pub id_from : ℕ → List ℕ → Identifier
-id_from n [] = Bad
+abbrev pub id_from : ℕ → List ℕ → Option ℕ
+id_from n [] = None
 id_from n (b ∷ s) =
     cond (is_digit b)
-    (cond (leb 1 (n * 10 + (b - code "0")) && leb (n * 10 + (b - code "0")) 2147483647) (id_from (n * 10 + (b - code "0")) s) Bad)
-    (cond (eqb b (code "]") && (leb 1 n && eqb (length s) 0)) (Is n) Bad)
+    (cond (leb 1 (n * 10 + (b - code "0")) && leb (n * 10 + (b - code "0")) 2147483647) (id_from (n * 10 + (b - code "0")) s) None)
+    (cond (eqb b (code "]") && (leb 1 n && eqb (length s) 0)) (Some n) None)
 
 -- "optionally `[id]`": nothing is id 0
-abbrev pub id_of : List ℕ → Identifier
-id_of [] = Is 0
-id_of (b ∷ s) = cond (eqb b (code "[")) (id_from 0 s) Bad
+abbrev pub id_of : List ℕ → Option ℕ
+id_of [] = Some 0
+id_of (b ∷ s) = cond (eqb b (code "[")) (id_from 0 s) None
 
 -- A line.
 
 -- a message where the identifier is one
-abbrev pub with_id : ℕ → List ℕ → Identifier → List (List ℕ) → Parse
-with_id k n Bad ws = malformed
-with_id k n (Is i) ws = message (record { kind = k; name = n; id = i; args = map unescape ws })
+abbrev pub with_id : ℕ → List ℕ → Option ℕ → List (List ℕ) → Parse
+with_id k n None ws = malformed
+with_id k n (Some i) ws = message (record { kind = k; name = n; id = i; args = map unescape ws })
 
 -- t is what follows the kind byte k in the first word, and ws are the other words
 abbrev pub read_named : ℕ → List ℕ → List (List ℕ) → Parse

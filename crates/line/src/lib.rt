@@ -2,14 +2,11 @@
 //! behind the first is an argument, which is found again by its place.
 #![tactic(auto)]
 
-ghost use Rattle.std.specs.Prelude.{◌≡◌, [], ◌+◌, ◌-◌, ◌≤◌, ◌<◌, length, get_or, take, drop};
+ghost use Rattle.std.specs.Prelude.{◌≡◌, [], ◌∷◌, ◌++◌, ◌<◌, length, get_or, take, drop, MatchOption};
 ghost use Rattle.output.specs.Output.{output, Wrote};
 ghost use Rattle.line.specs.Line as spec;
 ghost use Rattle.line.specs.Argument as arguments;
 ghost use Rattle.line.specs.Answer as answers;
-ghost use Rattle.line.specs.Words.{NextWord, IsWord};
-
-use texts::Class;
 
 // The most bytes of a line.
 pub const LONGEST: usize = 2048;
@@ -22,27 +19,6 @@ pub enum Meaning {
     Unknown,
 }
 
-// A message identifier: 0 for none.
-#[derive(Clone, Copy)]
-pub enum Identifier {
-    Bad,
-    Is(u64),
-}
-
-// The number of arguments of a line, where each is well formed.
-#[derive(Clone, Copy)]
-pub enum Count {
-    Refused,
-    Are(usize),
-}
-
-// Where a word starts, and where it ends.
-#[derive(Clone, Copy)]
-pub struct Span {
-    pub from: usize,
-    pub to: usize,
-}
-
 // A message's kind byte, the length of its name, its identifier (0 for none) and the number of its arguments.
 #[derive(Clone, Copy)]
 pub struct Header {
@@ -52,40 +28,20 @@ pub struct Header {
     pub count: usize,
 }
 
-// What a line is: no message, or a message.
-#[derive(Clone, Copy)]
-pub enum Parsed {
-    Malformed,
-    Message(Header),
-}
-
-// What became of a text that was to be copied into a buffer: its length, or that the buffer is too short.
-#[derive(Clone, Copy)]
-pub enum Copied {
-    Whole(usize),
-    Short,
-}
-
+#[tactic(auto, unfolding(crate::specs::Line::kind_byte))]
 fn kind_byte(b: u8) -> bool
     ensures { result ≡ spec.kind_byte b }
 {
-    (b == b'?') | ((b == b'!') | (b == b'#'))
+    matches!(b, b'?' | b'!' | b'#')
 }
 
 // A byte that stands raw in an argument: none of the seven that are escaped.
+#[tactic(auto, unfolding(crate::specs::Line::plain))]
 fn plain(b: u8) -> bool
     ensures { result ≡ spec.plain b }
 {
-    match b {
-        b'\\' => false, // backslash
-        b' ' => false, // space
-        0 => false, // null
-        10 => false, // newline
-        13 => false, // return
-        27 => false, // escape
-        9 => false, // tab
-        _ => true,
-    }
+    // backslash, space, null, newline, return, escape, tab
+    !matches!(b, b'\\' | b' ' | 0 | 10 | 13 | 27 | 9)
 }
 
 // What the byte after a backslash stands for, in the guideline's sequence.
@@ -109,8 +65,7 @@ fn known(c: u8) -> bool
     ensures { result ≡ spec.known (spec.escape_of c) }
 {
     match escape(c) {
-        Meaning::Byte(_) => true,
-        Meaning::Nothing => true,
+        Meaning::Byte(_) | Meaning::Nothing => true,
         Meaning::Unknown => false,
     }
 }
@@ -119,45 +74,56 @@ fn known(c: u8) -> bool
 fn lead(s: &[u8]) -> usize
     ensures { result ≡ answers.lead s.now }
 {
-    texts::run_len(s, Class::Blank)
+    texts::run_len(s, texts::is_blank)
 }
 
 // The length of the word that `s` starts with.
 fn word_len(s: &[u8]) -> usize
     ensures { result ≡ length (spec.word s.now) }
 {
-    texts::run_len(s, Class::Word)
+    texts::run_len(s, |b| !texts::is_blank(b))
 }
 
 // The length of the name that `s` starts with.
 fn name_len(s: &[u8]) -> usize
     ensures { result ≡ length (spec.name_of s.now) }
 {
-    texts::run_len(s, Class::Title)
+    texts::run_len(s, texts::is_title_byte)
 }
 
 // Whether a word is plain bytes and known escapes.
 fn valid(w: &[u8]) -> bool
     ensures { result ≡ spec.valid w.now }
 {
-    let mut i = 0;
-    while i < w.len() {
-        if w[i] == b'\\' {
-            if w.len() <= i + 1 {
+    let mut left = w;
+    while let [b, rest @ ..] = left {
+        if *b == b'\\' {
+            let [c, behind @ ..] = rest else {
+                return false;
+            };
+            if !known(*c) {
                 return false;
             }
-            if !known(w[i + 1]) {
-                return false;
-            }
-            i += 2;
+            left = behind;
         } else {
-            if !plain(w[i]) {
+            if !plain(*b) {
                 return false;
             }
-            i += 1;
+            left = rest;
         }
     }
     true
+}
+
+// What a word's first byte stands for, or a backslash and the byte after it, and what follows; where a word ends, nothing does.
+fn next_meaning(w: &[u8]) -> Option<(Meaning, &[u8])>
+    ensures { MatchOption result (spec.unescape w.now ≡ []) (λ x. (spec.unescape w.now ≡ spec.meant x.0 ++ spec.unescape x.1.now) × (length x.1.now < length w.now)) }
+{
+    match w {
+        [] | [b'\\'] => None,
+        [b'\\', c, rest @ ..] => Some((escape(*c), rest)),
+        [b, rest @ ..] => Some((Meaning::Byte(*b), rest)),
+    }
 }
 
 // The length of the text that a word stands for.
@@ -165,22 +131,12 @@ fn text_len(w: &[u8]) -> usize
     ensures { result ≡ length (spec.unescape w.now) }
 {
     let mut n = 0;
-    let mut i = 0;
-    while i < w.len() {
-        if w[i] != b'\\' {
+    let mut left = w;
+    while let Some((meaning, rest)) = next_meaning(left) {
+        if let Meaning::Byte(_) = meaning {
             n += 1;
-            i += 1;
-        } else {
-            if w.len() <= i + 1 {
-                return n;
-            }
-            if let Meaning::Byte(_) = escape(w[i + 1]) {
-                n += 1;
-                i += 2;
-            } else {
-                i += 2;
-            }
         }
+        left = rest;
     }
     n
 }
@@ -190,142 +146,120 @@ fn put_unescaped(into: &mut [u8], at: usize, w: &[u8]) -> usize
     ensures { Wrote (output into.old at) (spec.unescape w.now) (output into.new result) }
 {
     let mut p = at;
-    let mut i = 0;
-    while i < w.len() {
-        let b = w[i];
-        if b != b'\\' {
-            p = output::put_byte(into, p, b);
-            i += 1;
-        } else {
-            if w.len() <= i + 1 {
-                return p;
-            }
-            if let Meaning::Byte(x) = escape(w[i + 1]) {
-                p = output::put_byte(into, p, x);
-                i += 2;
-            } else {
-                i += 2;
-            }
+    let mut left = w;
+    while let Some((meaning, rest)) = next_meaning(left) {
+        if let Meaning::Byte(x) = meaning {
+            p = output::put_byte(into, p, x);
         }
+        left = rest;
     }
     p
 }
 
 // The digits of an identifier, up to the `]` that ends `t`.
-fn id_from(t: &[u8]) -> Identifier
+fn id_from(t: &[u8]) -> Option<u64>
     ensures { result ≡ spec.id_from 0 t.now }
 {
     let mut n: u64 = 0;
-    let mut i = 0;
-    while i < t.len() {
-        let b = t[i];
-        if !texts::is_digit(b) {
-            if b != b']' {
-                return Identifier::Bad;
+    let mut left = t;
+    while let [b, rest @ ..] = left {
+        if !texts::is_digit(*b) {
+            if (*b == b']') & ((1 <= n) & rest.is_empty()) {
+                return Some(n);
             }
-            if n < 1 {
-                return Identifier::Bad;
-            }
-            if i + 1 != t.len() {
-                return Identifier::Bad;
-            }
-            return Identifier::Is(n);
+            return None;
         }
-        n = n * 10 + wide(b - b'0');
+        n = n * 10 + u64::from(*b - b'0');
         if n < 1 {
-            return Identifier::Bad;
+            return None;
         }
         if 2147483647 < n {
-            return Identifier::Bad;
+            return None;
         }
-        i += 1;
+        left = rest;
     }
-    Identifier::Bad
-}
-
-fn wide(b: u8) -> u64
-    ensures { result ≡ b }
-{
-    b as u64
+    None
 }
 
 // What is behind the name in a head: nothing, or an identifier in brackets.
-fn id_of(t: &[u8]) -> Identifier
+fn id_of(t: &[u8]) -> Option<u64>
     ensures { result ≡ spec.id_of t.now }
 {
-    if t.len() == 0 {
-        return Identifier::Is(0);
+    match t {
+        [] => Some(0),
+        [b'[', digits @ ..] => id_from(digits),
+        _ => None,
     }
-    if t[0] != b'[' {
-        return Identifier::Bad;
-    }
-    id_from(&t[1..])
 }
 
-// The first word at or after `from`; where there is none, an empty one.
-fn next_word(s: &[u8], from: usize) -> Span
-    requires { from ≤ length s.now }
-    ensures { NextWord s.now from result }
+// The first word of `s`, and what stands behind it; nothing where `s` has no word.
+fn next_word(s: &[u8]) -> Option<(&[u8], &[u8])>
+    ensures { MatchOption result (spec.words s.now ≡ []) (λ x. (spec.words s.now ≡ x.0.now ∷ spec.words x.1.now) × (length x.1.now < length s.now)) }
 {
-    let a = from + lead(&s[from..]);
-    let e = a + word_len(&s[a..]);
-    Span { from: a, to: e }
+    let start = texts::rest(s, lead(s));
+    let n = word_len(start);
+    if n == 0 {
+        return None;
+    }
+    Some(start.split_at(n))
+}
+
+// What stands behind the first word of a line, which may be empty.
+fn behind(line: &[u8]) -> &[u8]
+    ensures { spec.words result.now ≡ spec.behind line.now }
+{
+    texts::rest(line, word_len(line))
 }
 
 // The number of the arguments of a line, where each is valid.
-fn arguments(line: &[u8]) -> Count
+fn arguments(line: &[u8]) -> Option<usize>
     ensures { result ≡ answers.count_of (spec.behind line.now) }
 {
-    let mut p = word_len(line);
+    let mut left = behind(line);
     let mut n = 0;
-    while p < line.len() {
-        let w = next_word(line, p);
-        let a = w.from;
-        let e = w.to;
-        if a == e {
-            return Count::Are(n);
-        }
-        if !valid(&line[a..e]) {
-            return Count::Refused;
+    while let Some((word, rest)) = next_word(left) {
+        if !valid(word) {
+            return None;
         }
         n += 1;
-        p = e;
+        left = rest;
     }
-    Count::Are(n)
+    Some(n)
 }
 
 // The word of argument `k`; where there is none, an empty one.
-fn argument_word(line: &[u8], k: usize) -> Span
-    ensures { IsWord line.now result (get_or (spec.behind line.now) k []) }
+fn argument_word(line: &[u8], k: usize) -> &[u8]
+    ensures { result.now ≡ get_or (spec.behind line.now) k [] }
 {
-    let mut p = word_len(line);
-    let mut left = k;
-    while 0 < left {
-        let w = next_word(line, p);
-        p = w.to;
-        left -= 1;
+    let mut left = behind(line);
+    for _ in 0..k {
+        let Some((_, rest)) = next_word(left) else {
+            return &[];
+        };
+        left = rest;
     }
-    next_word(line, p)
+    match next_word(left) {
+        Some((word, _)) => word,
+        None => &[],
+    }
 }
 
 // What the name and the identifier of a head say, of a line of `kind` with `count` arguments.
-fn named(t: &[u8], kind: u8, count: usize) -> Parsed
+fn named(t: &[u8], kind: u8, count: usize) -> Option<Header>
     ensures { result ≡ answers.named_read kind t.now count }
 {
     let n = name_len(t);
     if 64 < n {
-        return Parsed::Malformed;
+        return None;
     }
     if n == 0 {
-        return Parsed::Malformed;
+        return None;
     }
     if !texts::is_letter(t[0]) {
-        return Parsed::Malformed;
+        return None;
     }
-    let Identifier::Is(id) = id_of(&t[n..]) else {
-        return Parsed::Malformed;
-    };
-    Parsed::Message(Header {
+    let id = id_of(&t[n..])?;
+    Some(Header {
         kind: kind,
         name: n,
         id: id,
@@ -334,17 +268,14 @@ fn named(t: &[u8], kind: u8, count: usize) -> Parsed
 }
 
 // What the first word of a line says, of a line with `count` arguments.
-fn head(w: &[u8], count: usize) -> Parsed
+fn head(w: &[u8], count: usize) -> Option<Header>
     ensures { result ≡ answers.head_read w.now count }
 {
-    if w.len() == 0 {
-        return Parsed::Malformed;
+    let (kind, rest) = w.split_first()?;
+    if !kind_byte(*kind) {
+        return None;
     }
-    let kind = w[0];
-    if !kind_byte(kind) {
-        return Parsed::Malformed;
-    }
-    named(&w[1..], kind, count)
+    named(rest, *kind, count)
 }
 
 // Whether a line is empty or has spaces and tabs alone. One of over 2,048 bytes is no line, and so is not blank.
@@ -355,41 +286,33 @@ pub fn is_blank(line: &[u8]) -> bool
 }
 
 // A line that is not blank: the message that it is, or malformed, also where it has over 2,048 bytes.
-pub fn read(line: &[u8]) -> Parsed
+pub fn read(line: &[u8]) -> Option<Header>
     ensures { result ≡ answers.answer (spec.parse line.now) }
 {
     if LONGEST < line.len() {
-        return Parsed::Malformed;
+        return None;
     }
-    let Count::Are(count) = arguments(line) else {
-        return Parsed::Malformed;
-    };
-    let e = word_len(line);
-    head(&line[..e], count)
+    let count = arguments(line)?;
+    head(texts::prefix(line, word_len(line)), count)
 }
 
 // The text of argument `k`, copied to the start of `into`; where that is too short, `into` is left as it was.
-pub fn argument(line: &[u8], k: usize, into: &mut [u8]) -> Copied
+pub fn argument(line: &[u8], k: usize, into: &mut [u8]) -> Option<usize>
     ensures value { result ≡ arguments.copied (arguments.argument line.now k) into.old }
     ensures into_after { into.new ≡ arguments.copied_into (arguments.argument line.now k) into.old }
 {
-    let w = argument_word(line, k);
-    let a = w.from;
-    let e = w.to;
-    let n = text_len(&line[a..e]);
+    let word = argument_word(line, k);
+    let n = text_len(word);
     if into.len() < n {
-        return Copied::Short;
+        return None;
     }
-    put_unescaped(into, 0, &line[a..e]);
-    Copied::Whole(n)
+    put_unescaped(into, 0, word);
+    Some(n)
 }
 
 // The name of a line's message, of `n` bytes.
 pub fn name(line: &[u8], n: usize) -> &[u8]
     ensures { result.now ≡ take n (drop 1 line.now) }
 {
-    if line.len() == 0 {
-        return line;
-    }
-    texts::prefix(&line[1..], n)
+    texts::prefix(texts::rest(line, 1), n)
 }

@@ -4,7 +4,7 @@ use Prim.Native.Char.{code}
 use mathlib.Core.Path.{◌≡◌, refl, ap, sym, ◌∙◌}
 use mathlib.Core.Bool.{Bool, true, false, cond, ◌&&◌, ◌||◌}
 use mathlib.Core.List.{List, [], ◌∷◌, map}
-use mathlib.Core.Option.{Option, none, some}
+use Rattle.std.specs.Prelude.{Option, None, Some}
 use lib.Dec.{eqb, ltb}
 use lib.ListN.{length}
 use lib.Seq.{take-append_seam}
@@ -87,8 +87,8 @@ unfolding asked
 request_is r line = go (parse line) refl
   where
     known : (m : Message) (o : Option Request) → request_named m.name ≡ o → same m.name (name_for r) ≡ asks_for r (asked_for o m)
-    known m (some q) e = ap (λ t. same t (name_for r)) (request_name m.name q e)
-    known m none e = unnamed (same m.name (name_for r)) refl
+    known m (Some q) e = ap (λ t. same t (name_for r)) (request_name m.name q e)
+    known m None e = unnamed (same m.name (name_for r)) refl
       where
         unnamed : (b : Bool) → same m.name (name_for r) ≡ b → b ≡ false
         unnamed false q = refl

@@ -4,7 +4,7 @@ use Prim.Native.Char.{code}
 use mathlib.Core.Path.{◌≡◌, refl, ap, ap₂, sym, ◌∙◌}
 use mathlib.Core.Bool.{Bool, true, false, cond, not, ◌&&◌}
 use mathlib.Core.List.{List, [], ◌∷◌, ◌++◌, map, map-append}
-use mathlib.Core.Option.{Option, none, some}
+use Rattle.std.specs.Prelude.{Option, None, Some}
 use lib.Dec.{eqb, ltb}
 use lib.ListN.{length, get_or, drop}
 use Rattle.output.specs.Text.{text, all}
@@ -79,14 +79,14 @@ each_message P start a sent (call ∷ h) =
 -- The last report.
 
 later_later : (x y z : Option Told) → later (later x y) z ≡ later x (later y z)
-later_later none y z = refl
-later_later (some r) y z = refl
+later_later None y z = refl
+later_later (Some r) y z = refl
 
 -- a sampling reply tells a strategy, or is one that no device writes
 module _ (sheet : Sheet) (P : News → Type 0) (impossible : P Impossible) (set : (js : List ℕ) (st : Strategy) → P (SetTo js st)) where
   with_either : (js : List ℕ) (k : ℕ) (o : Option (List ℕ)) → P (set_with sheet js k o)
-  with_either js k none = impossible
-  with_either js k (some ns) = cond_either P (all (λ i. strategy_ok (sensor_of sheet i).kind (strategy_by k ns)) js) (SetTo js (strategy_by k ns)) Impossible (set js (strategy_by k ns)) impossible
+  with_either js k None = impossible
+  with_either js k (Some ns) = cond_either P (all (λ i. strategy_ok (sensor_of sheet i).kind (strategy_by k ns)) js) (SetTo js (strategy_by k ns)) Impossible (set js (strategy_by k ns)) impossible
 
   strategy_either : (js : List ℕ) (args : List (List ℕ)) → P (strategy_news sheet js args)
   unfolding strategy_news
@@ -124,11 +124,11 @@ module _ (sheet : Sheet) (j : ℕ) where
   told_last Impossible v p = absurd (p refl)
   told_last (Reported k r) v p = go (agrees (sensor_of sheet k) r.status r.value) p
     where
-      go : (b : Bool) → (cond b (Reported k r) Impossible ≡ Impossible → ⊥) → (view_after j (cond b (Reported k r) Impossible) v).last ≡ later (cond (eqb k j) (some r) none) v.last
+      go : (b : Bool) → (cond b (Reported k r) Impossible ≡ Impossible → ⊥) → (view_after j (cond b (Reported k r) Impossible) v).last ≡ later (cond (eqb k j) (Some r) None) v.last
       go false q = absurd (q refl)
       go true q = told (eqb k j)
         where
-          told : (c : Bool) → (cond c (record { strategy = v.strategy; last = some r }) v).last ≡ later (cond c (some r) none) v.last
+          told : (c : Bool) → (cond c (record { strategy = v.strategy; last = Some r }) v).last ≡ later (cond c (Some r) None) v.last
           told true = refl
           told false = refl
   told_last (SetTo js st) v p = set_last js st v
@@ -140,7 +140,7 @@ module _ (sheet : Sheet) (j : ℕ) where
     where
       go : (b : Bool) → (cond b (agreed sheet (report_read sheet m)) (cond (is_ok (text "sensor-sampling") m) (sampling_news sheet m) Other) ≡ Impossible → ⊥)
           → (view_after j (cond b (agreed sheet (report_read sheet m)) (cond (is_ok (text "sensor-sampling") m) (sampling_news sheet m) Other)) v).last
-          ≡ later (cond b (report_in j (report_read sheet m)) none) v.last
+          ≡ later (cond b (report_in j (report_read sheet m)) None) v.last
       go true p = told_last (report_read sheet m) v p
       go false p = cond_either (λ w. (view_after j w v).last ≡ v.last) (is_ok (text "sensor-sampling") m) (sampling_news sheet m) Other (sampling_last m v) (other_last v)
 

@@ -4,7 +4,7 @@ use native.Mathlib.Omega.{arith}
 use mathlib.Core.Path.{◌≡◌, refl, ap, sym, ◌∙◌, subst}
 use mathlib.Core.Bool.{Bool, true, false, cond, not, ◌&&◌, ◌||◌, true≢false}
 use mathlib.Core.List.{List, [], ◌∷◌, ◌++◌, map}
-use mathlib.Core.Option.{some}
+use Rattle.std.specs.Prelude.{Some}
 use lib.Dec.{eqb, leb, ltb}
 use lib.ListN.{length}
 use borrow.Author.Tests.{leb-true, le-leb}
@@ -46,7 +46,7 @@ use Rattle.machine.proofs.TellsLaws.{lines_read}
 
 -- a message that shows a clock shows t
 abbrev Timed : ℕ → Message → Type 0
-Timed t m = shows_clock (message m) ≡ true → clock_in (message m) ≡ some t
+Timed t m = shows_clock (message m) ≡ true → clock_in (message m) ≡ Some t
 
 -- each of some deliveries
 abbrev AllTimed : ℕ → List Delivery → Type 0
@@ -183,20 +183,20 @@ module _ (start : Start) where
 
   -- Lines.
 
-  shown : (a : ℕ) (h : List Call) (call : Call) → Each (λ l. shows_clock (parse (without_end l)) ≡ true → line_clock l ≡ some (clock_of start (call ∷ h))) (lines_to a (packets_of start h call))
+  shown : (a : ℕ) (h : List Call) (call : Call) → Each (λ l. shows_clock (parse (without_end l)) ≡ true → line_clock l ≡ Some (clock_of start (call ∷ h))) (lines_to a (packets_of start h call))
   shown a h call = let t = clock_of start (call ∷ h) in let ds = (step (after start h) call).sent in
-      subst (Each (λ l. shows_clock (parse (without_end l)) ≡ true → line_clock l ≡ some t)) (sym (ap (lines_to a) (sent_packets start a h call) ∙ lines_packed a ds))
-      (lines_read (λ p. shows_clock p ≡ true → clock_in p ≡ some t) (sent_to a ds) (each_to WellFormed a ds (sent_well_formed (after start h) call)) (each_to (Timed t) a ds (sent_timed h call)))
+      subst (Each (λ l. shows_clock (parse (without_end l)) ≡ true → line_clock l ≡ Some t)) (sym (ap (lines_to a) (sent_packets start a h call) ∙ lines_packed a ds))
+      (lines_read (λ p. shows_clock p ≡ true → clock_in p ≡ Some t) (sent_to a ds) (each_to WellFormed a ds (sent_well_formed (after start h) call)) (each_to (Timed t) a ds (sent_timed h call)))
 
   -- a line that shows a clock shows one that is not later than now
   abbrev Not-later : ℕ → List ℕ → Type 0
-  Not-later now l = shows_clock (parse (without_end l)) ≡ true → (t : ℕ) × ((line_clock l ≡ some t) × (t ≤ now))
+  Not-later now l = shows_clock (parse (without_end l)) ≡ true → (t : ℕ) × ((line_clock l ≡ Some t) × (t ≤ now))
 
   at_least : (a : ℕ) (h : List Call) → Each (Not-later (clock_of start h)) (lines_of start a h)
   unfolding lines_of
   at_least a [] = tt
   at_least a (call ∷ h) = let now = clock_of start (call ∷ h) in
-      let own = each_weaker (λ l. shows_clock (parse (without_end l)) ≡ true → line_clock l ≡ some now) (Not-later now) (λ l f e. (now, (f e, omega arith))) (lines_to a (packets_of start h call)) (shown a h call) in
+      let own = each_weaker (λ l. shows_clock (parse (without_end l)) ≡ true → line_clock l ≡ Some now) (Not-later now) (λ l f e. (now, (f e, omega arith))) (lines_to a (packets_of start h call)) (shown a h call) in
       cond_either (Each (Not-later now)) (connects start a h call) _ _ (each_from (Not-later now) _ _ own)
       (each_append (Not-later now) (lines_of start a h) _
       (each_weaker (Not-later (clock_of start h)) (Not-later now) (λ l f e. let k = f e in (k.0, (k.1.0, omega (arith, k.1.1, clock_step h call)))) (lines_of start a h) (at_least a h)) own)

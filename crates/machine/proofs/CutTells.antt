@@ -5,7 +5,8 @@ use native.Mathlib.Omega.{arith}
 use mathlib.Core.Path.{◌≡◌, refl, ap, sym, ◌∙◌, subst}
 use mathlib.Core.Bool.{Bool, true, false, cond, not, ◌&&◌, ◌||◌, true≢false}
 use mathlib.Core.List.{List, [], ◌∷◌, ◌++◌}
-use mathlib.Core.Option.{Option, none, some, some-injective}
+use Rattle.std.specs.Prelude.{Option, None, Some}
+use Rattle.std.proofs.lemmas.Option.{same_Some}
 use lib.Dec.{ltb}
 use lib.ListN.{length}
 use borrow.Author.Tests.{ne_eqb, ltb-true, not-true}
@@ -31,10 +32,10 @@ use Rattle.machine.proofs.CutLaws.{from_here, cut_at, closed}
 
 -- the clock of a report
 abbrev clock_told : News → Option ℕ
-clock_told Other = none
-clock_told Impossible = none
-clock_told (Reported k r) = some r.time
-clock_told (SetTo js st) = none
+clock_told Other = None
+clock_told Impossible = None
+clock_told (Reported k r) = Some r.time
+clock_told (SetTo js st) = None
 
 -- a strategy told
 abbrev is_set : News → Bool
@@ -52,13 +53,13 @@ impossible_of : (t : Option ℕ) → OfReport t Impossible
 impossible_of t = record { clocked = λ e. absurd (true≢false (sym e)); not_set = refl }
 
 module _ (sheet : Sheet) where
-  valued_of : (j : ℕ) (p : Parts) (v : Option ℕ) → OfReport (some p.time) (valued j p v)
-  valued_of j p none = impossible_of (some p.time)
-  valued_of j p (some v) = record { clocked = λ _. refl; not_set = refl }
+  valued_of : (j : ℕ) (p : Parts) (v : Option ℕ) → OfReport (Some p.time) (valued j p v)
+  valued_of j p None = impossible_of (Some p.time)
+  valued_of j p (Some v) = record { clocked = λ _. refl; not_set = refl }
 
-  on_of : (p : Parts) → OfReport (some p.time) (report_on sheet p)
+  on_of : (p : Parts) → OfReport (Some p.time) (report_on sheet p)
   unfolding report_on
-  on_of p = cond_either (OfReport (some p.time)) (ltb j sheet.count) (valued j p value) Impossible (valued_of j p value) (impossible_of (some p.time))
+  on_of p = cond_either (OfReport (Some p.time)) (ltb j sheet.count) (valued j p value) Impossible (valued_of j p value) (impossible_of (Some p.time))
     where
       j : ℕ
       j = place_of sheet p.name
@@ -67,12 +68,12 @@ module _ (sheet : Sheet) where
       value = read_value (sensor_of sheet j) p.value
 
   with_of : (m : Message) (t : Option ℕ) → OfReport t (report_from sheet (parts_with m t))
-  with_of m none = impossible_of none
-  with_of m (some t) = on_of _
+  with_of m None = impossible_of None
+  with_of m (Some t) = on_of _
 
   read_of : (m : Message) → OfReport (read_time (argument m 0)) (report_read sheet m)
   unfolding report_read parts_of
-  read_of m = cond_either (λ o. OfReport (read_time (argument m 0)) (report_from sheet o)) (is_shaped m) (parts_with m (read_time (argument m 0))) none
+  read_of m = cond_either (λ o. OfReport (read_time (argument m 0)) (report_from sheet o)) (is_shaped m) (parts_with m (read_time (argument m 0))) None
       (with_of m (read_time (argument m 0))) (impossible_of (read_time (argument m 0)))
 
   agreed_of : (t : Option ℕ) (w : News) → OfReport t w → OfReport t (agreed sheet w)
@@ -105,8 +106,8 @@ module _ (sheet : Sheet) where
   parse_of (message m) = news_of m
 
   -- two reports of which the second is later do not go on
-  later_not : (l next : List ℕ) (rest : List (List ℕ)) (t : ℕ) → is_sampling_ok (parse (without_end l)) ≡ false → next_clock (next ∷ rest) ≡ some t
-      → ((u : ℕ) → line_clock l ≡ some u → u < t) → goes_on (line_news sheet l) (line_news sheet next) ≡ false
+  later_not : (l next : List ℕ) (rest : List (List ℕ)) (t : ℕ) → is_sampling_ok (parse (without_end l)) ≡ false → next_clock (next ∷ rest) ≡ Some t
+      → ((u : ℕ) → line_clock l ≡ Some u → u < t) → goes_on (line_news sheet l) (line_news sheet next) ≡ false
   later_not l next rest t other n h = go (line_news sheet l) (line_news sheet next) refl refl
     where
       go : (w v : News) → line_news sheet l ≡ w → line_news sheet next ≡ v → goes_on w v ≡ false
@@ -125,12 +126,12 @@ module _ (sheet : Sheet) where
           new = (parse_of (parse (without_end next))).0 (ap is_report q)
 
           same : s.time ≡ t
-          same = some-injective s.time t (sym (ap clock_told q) ∙ (sym new.1 ∙ (sym (cond_true (shows_clock (parse (without_end next))) (line_clock next) (next_clock rest) new.0) ∙ n)))
+          same = same_Some s.time t (sym (ap clock_told q) ∙ (sym new.1 ∙ (sym (cond_true (shows_clock (parse (without_end next))) (line_clock next) (next_clock rest) new.0) ∙ n)))
 
-  later_closes : (before : List (List ℕ)) (l : List ℕ) (seen : List (List ℕ)) (t : ℕ) → is_sampling_ok (parse (without_end l)) ≡ false → next_clock seen ≡ some t
-      → Each (λ k. (u : ℕ) → line_clock k ≡ some u → u < t) (before ++ (l ∷ [])) → leaves_open sheet l seen ≡ false
+  later_closes : (before : List (List ℕ)) (l : List ℕ) (seen : List (List ℕ)) (t : ℕ) → is_sampling_ok (parse (without_end l)) ≡ false → next_clock seen ≡ Some t
+      → Each (λ k. (u : ℕ) → line_clock k ≡ Some u → u < t) (before ++ (l ∷ [])) → leaves_open sheet l seen ≡ false
   later_closes before l [] t other n h = absurd (none_some t n)
-  later_closes before l (next ∷ rest) t other n h = later_not l next rest t other n (each_behind (λ k. (u : ℕ) → line_clock k ≡ some u → u < t) before (l ∷ []) h).0
+  later_closes before l (next ∷ rest) t other n h = later_not l next rest t other n (each_behind (λ k. (u : ℕ) → line_clock k ≡ Some u → u < t) before (l ∷ []) h).0
 
 -- The call that gave a line.
 

@@ -1,26 +1,21 @@
--- The pass over a list: whether one that passes a test was found so far.
-use Prim.Native.Nat.{ℕ, ◌+◌, ◌<◌, ◌≤◌}
-use native.Mathlib.Omega.{arith}
-use mathlib.Core.Path.{◌≡◌, refl, ap, sym, ◌∙◌}
-use mathlib.Core.Bool.{Bool, false, ◌||◌}
-use mathlib.Core.List.{List}
-use lib.ListN.{length, take, get_or}
-use lib.Seq.{take_all}
-use Rattle.machine.specs.Places.{any}
-use Rattle.machine.proofs.AnyLaws.{any_more}
+-- Whether some element passes a test, as the library says it.
+use Prim.Native.Nat.{ℕ}
+use mathlib.Core.Path.{◌≡◌, refl, ap, ◌∙◌}
+use mathlib.Core.Bool.{Bool, ◌||◌}
+use mathlib.Core.List.{List, [], ◌∷◌}
+use lib.Dec.{eqb}
+use Rattle.std.specs.List.{list_any}
+use Rattle.machine.specs.Places.{any, has}
+use Rattle.machine.proofs.TestLaws.{eqb_sym}
 
 module _ {A : Type 0} where
-  pub record Found (f : A → Bool) (xs : List A) (found : Bool) (k : ℕ) : Type 0 where
-    pub inside : k ≤ length xs
-    pub so_far : found ≡ any f (take k xs)
-
-  pub found_none : (f : A → Bool) (xs : List A) → Found f xs false 0
+  pub found_any : (f : A → Bool) (xs : List A) → list_any f xs ≡ any f xs
   unfolding any
-  found_none f xs = record { inside = omega arith; so_far = refl }
+  found_any f [] = refl
+  found_any f (x ∷ xs) = ap (λ b. f x || b) (found_any f xs)
 
-  module _ {f : A → Bool} {xs : List A} {found : Bool} {k : ℕ} (h : Found f xs found k) where
-    pub found_on : (d : A) (b : Bool) → k < length xs → b ≡ f (get_or xs k d) → Found f xs (found || b) (k + 1)
-    found_on d b l e = record { inside = omega arith; so_far = rw (h.so_far, e) (sym (any_more f xs k d l)) }
-
-    pub found_all : length xs ≤ k → found ≡ any f xs
-    found_all l = h.so_far ∙ ap (any f) (take_all k xs l)
+-- a number in a list
+pub found_in : (j : ℕ) (js : List ℕ) → list_any (λ i. eqb i j) js ≡ has j js
+unfolding has any
+found_in j [] = refl
+found_in j (i ∷ js) = ap (λ b. b || list_any (λ k. eqb k j) js) (eqb_sym i j) ∙ ap (λ b. eqb j i || b) (found_in j js)

@@ -4,7 +4,7 @@ use native.Mathlib.Omega.{arith}
 use mathlib.Core.Path.{◌≡◌, refl, ap, ap₂, sym, ◌∙◌}
 use mathlib.Core.Bool.{Bool, true, false, cond, ◌&&◌, ◌||◌, true≢false}
 use mathlib.Core.List.{List, [], ◌∷◌, ◌++◌, map, append-nil}
-use mathlib.Core.Option.{some}
+use Rattle.std.specs.Prelude.{Some}
 use lib.Dec.{eqb}
 use borrow.Author.Tests.{eqb-true, eqb-false}
 use Rattle.message.specs.Message.{Message}
@@ -127,7 +127,7 @@ Readable sheet s = (k : ℕ) → k < sheet.count → news sheet (report_of sheet
 module _ (sheet : Sheet) (s : State) (readable : Readable sheet s) (a j : ℕ) where
   -- the view after the report of sensor j's present reading
   abbrev pub told_now : View → View
-  told_now v = record { strategy = v.strategy; last = some (told_of (sensor_of sheet j) s.clock (present s j)) }
+  told_now v = record { strategy = v.strategy; last = Some (told_of (sensor_of sheet j) s.clock (present s j)) }
 
   -- a report of sensor k to client c
   pub report_heard : (c k : ℕ) (v : View) → k < sheet.count

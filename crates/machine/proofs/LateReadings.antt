@@ -5,7 +5,7 @@ use native.Mathlib.Omega.{arith}
 use mathlib.Core.Path.{◌≡◌, refl, ap, ap₂, sym, ◌∙◌, subst}
 use mathlib.Core.Bool.{Bool, true, false, cond, not, ◌&&◌, true≢false}
 use mathlib.Core.List.{List, [], ◌∷◌, ◌++◌, map}
-use mathlib.Core.Option.{Option, none, some}
+use Rattle.std.specs.Prelude.{Option, None, Some}
 use lib.Dec.{eqb, leb, ltb}
 use lib.ListN.{length}
 use borrow.Author.Tests.{leb-true, le-leb, le-ltb}
@@ -131,10 +131,10 @@ module _ (start : Start) (j : ℕ) where
   later_time (Tick t) before = omega arith
   later_time (Reading k r) before = go (eqb k j) before
     where
-      go : (b : Bool) (o : Option Arrival) → time_from o ≤ time_from (cond (b && superseding r.time o) (some r) o)
+      go : (b : Bool) (o : Option Arrival) → time_from o ≤ time_from (cond (b && superseding r.time o) (Some r) o)
       go false o = omega arith
-      go true none = omega arith
-      go true (some old) = cond_cases (λ o. old.time ≤ time_from o) (leb old.time r.time) (some r) (some old) (λ e. leb-true old.time r.time e) (λ _. omega arith)
+      go true None = omega arith
+      go true (Some old) = cond_cases (λ o. old.time ≤ time_from o) (leb old.time r.time) (Some r) (Some old) (λ e. leb-true old.time r.time e) (λ _. omega arith)
   later_time (Log level logger said) before = omega arith
   later_time (Line c line) before = omega arith
 
@@ -148,8 +148,8 @@ module _ (start : Start) (j : ℕ) where
   at_clock hs h = go (last_reading start j h) (never_ahead hs h)
     where
       go : (o : Option Arrival) → time_from o ≤ clock_of start h → superseding (clock_of start h) o ≡ true
-      go none l = refl
-      go (some r) l = le-leb r.time (clock_of start h) l
+      go None l = refl
+      go (Some r) l = le-leb r.time (clock_of start h) l
 
 -- document 02, (g)
 pub late_readings : LateReadings

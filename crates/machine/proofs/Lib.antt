@@ -1,4 +1,5 @@
 pub mod TestLaws
+pub mod RefusalLaws
 pub mod PlacesLaws
 pub mod AnyLaws
 pub mod FirstLaws

@@ -3,7 +3,7 @@ use Prim.Native.Nat.{ℕ, ◌+◌, ◌≤◌}
 use native.Mathlib.Omega.{arith}
 use mathlib.Core.Path.{◌≡◌, refl, ap, sym, ◌∙◌}
 use mathlib.Core.Bool.{true, not, ◌&&◌, ◌||◌}
-use mathlib.Core.Option.{Option, none, some}
+use Rattle.std.specs.Prelude.{Option, None, Some}
 use lib.Dec.{eqb, leb, ltb}
 use mathlib.Core.List.{List}
 use lib.ListN.{length, drop}
@@ -13,7 +13,6 @@ use Rattle.value.specs.Reading.{is_measured}
 use Rattle.machine.specs.declared.Sheet.{Sheet}
 use Rattle.machine.specs.declared.Request.{Request}
 use Rattle.machine.specs.declared.Request.TheVariants.{ClientList, Halt, Help, LogLevel, Restart, SensorList, SensorSampling, SensorValue, VersionList, Watchdog}
-use Rattle.machine.specs.declared.Found.{Found}
 use Rattle.machine.specs.Places.{any, twice}
 use Rattle.machine.specs.Sheet.{sensor_of, not_on_sheet}
 use Rattle.machine.specs.Requests.{Asked, Nothing, NotMessage, Reply, Unknown, Asks, argument, asked_places, hidden, request_named, found_number, level_of, listed, kind_asked, parameter_count, by_difference, is_bad, parameters_of, strategy_made, shortest_over_longest}
@@ -28,8 +27,8 @@ abbrev OfRequest : ℕ → Type 0
 OfRequest n = Within 14 n
 
 help_row : (profile : ℕ) (o : Option Request) → OfRequest (help_declined profile o)
-help_row profile none = refl
-help_row profile (some r) = cond_either (λ (f : Found). OfRequest (found_number 23 f)) (hidden profile r) Found.Unknown (Found.Is r) refl refl
+help_row profile None = refl
+help_row profile (Some r) = cond_either (λ (f : Option Request). OfRequest (found_number 23 f)) (hidden profile r) None (Some r) refl refl
 
 -- of a list: its two rows, and those behind them
 places_row : (sheet : Sheet) (js : List ℕ) (rest : ℕ) → OfRequest rest → OfRequest (places_declined sheet js rest)

@@ -4,7 +4,7 @@ use native.Mathlib.Omega.{arith}
 use mathlib.Core.Path.{◌≡◌, refl, ap, sym, ◌∙◌, subst}
 use mathlib.Core.Bool.{Bool, true, false, cond, ◌&&◌, ◌||◌, true≢false}
 use mathlib.Core.List.{List, [], ◌∷◌, ◌++◌, map}
-use mathlib.Core.Option.{none}
+use Rattle.std.specs.Prelude.{None}
 use lib.Dec.{eqb, ltb}
 use borrow.Author.Tests.{eqb-true, lt-ltb}
 use Rattle.message.specs.Message.{Message}
@@ -54,9 +54,9 @@ module _ (start : Start) where
       (λ _. perform_clock (after start h) call.action ∙ ap (clock_by call.action) (clock_is h)) (λ n _. clock_is h)
 
 module _ (start : Start) (j : ℕ) (hj : j < 32) (hs : j < (sheet_of start).count) where
-  opened_stored : StoredBy (sensor_of (sheet_of start) j) (stored_of (opened start).state j) none
+  opened_stored : StoredBy (sensor_of (sheet_of start) j) (stored_of (opened start).state j) None
   unfolding fresh_readings
-  opened_stored = opened_either (λ s. j < s.sheet.count → StoredBy (sensor_of s.sheet j) (stored_of s j) none) start
+  opened_stored = opened_either (λ s. j < s.sheet.count → StoredBy (sensor_of s.sheet j) (stored_of s j) None) start
       (λ sheet ok k l. let e = get_or-tabulate _ 32 j no_stored hj ∙ cond_true (ltb j sheet.count) _ no_stored (lt-ltb j sheet.count l) in
       record { sample_is = ap (λ (x : Stored). x.sample) e; time_is = ap (λ (x : Stored). x.time) e; fresh_is = ap (λ (x : Stored). is_unknown x.sample) e })
       (λ l. absurd (omega arith)) hs

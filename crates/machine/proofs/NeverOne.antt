@@ -1,12 +1,12 @@
 -- Number 1 tells of a state out of range, and of nothing else.
+use Rattle.std.specs.Prelude.{Some, None, Option}
+use Rattle.value.specs.declared.Sample.{Sample}
 use Prim.Native.Nat.{ℕ}
 use mathlib.Core.Path.{◌≡◌, ◌∙◌, refl}
 use mathlib.Core.Bool.{Bool, true, cond, not, false}
 use native.Mathlib.Omega.{arith}
 use lib.Dec.{eqb, ltb}
 use lib.ListN.{length}
-use Rattle.value.specs.declared.Sampled.{Sampled}
-use Rattle.value.specs.declared.Sampled.TheVariants.{As, Unfit}
 use Rattle.value.specs.Reading.{sample_of}
 use Rattle.value.specs.Answer.{sampled_number}
 use Rattle.machine.specs.declared.Sensor.{Sensor}
@@ -35,9 +35,9 @@ client_not : (profile : ℕ) (refused : Bool) (c rest : ℕ) → NotOne rest →
 unfolding client_declined
 client_not profile refused c rest h = cond_either NotOne (ltb (last_client profile) c) (above_last profile) (cond refused 6 rest) (cond_either NotOne (single profile) 32 5 (not_one 32 refl) (not_one 5 refl)) (cond_either NotOne refused 6 rest (not_one 6 refl) h)
 
-sampled_not : (a : Sampled) → NotOne (sampled_number a)
-sampled_not (As x) = not_one 0 refl
-sampled_not Unfit = not_one 10 refl
+sampled_not : (a : Option Sample) → NotOne (sampled_number a)
+sampled_not (Some x) = not_one 0 refl
+sampled_not None = not_one 10 refl
 
 reading_not : (n : Sensor) (clock : ℕ) (r : Arrival) → NotOne (reading_declined n clock r)
 unfolding reading_declined

@@ -4,7 +4,7 @@ use native.Mathlib.Omega.{arith}
 use mathlib.Core.Path.{◌≡◌, ap, ◌∙◌}
 use mathlib.Core.Bool.{Bool, true, false}
 use mathlib.Core.List.{List, [], ◌∷◌, map}
-use mathlib.Core.Option.{some}
+use Rattle.std.specs.Prelude.{Some}
 use lib.ListN.{length, get_or, length-map}
 use borrow.Author.Tests.{lt-ltb, le-leb, eq-eqb}
 use Rattle.output.specs.Text.{text, all}
@@ -33,7 +33,7 @@ use Rattle.machine.specs.State.{present}
 
 -- the parts of a report, as written
 parts_of_lem : (clock : ℕ) → clock ≤ 9999999999999 → (n : Sensor) (x : Sample)
-    → parts_of (report clock n x) ≡ some (record { time = clock; name = name_of n; status = status_for n x; value = value_for n x.number })
+    → parts_of (report clock n x) ≡ Some (record { time = clock; name = name_of n; status = status_for n x; value = value_for n x.number })
 unfolding parts_of is_shaped report
 parts_of_lem clock t n x =
     rw (

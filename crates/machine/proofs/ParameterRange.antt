@@ -1,4 +1,5 @@
 -- The numbers that parameters are read as: within bounds, and a difference that suits sensors of both types is one number.
+use Rattle.std.specs.Prelude.{Some, None, Option}
 use Prim.Native.Nat.{ℕ, ◌+◌, ◌-◌, ◌*◌, ◌%◌, ◌^◌, ◌≤◌, ◌<◌}
 use native.Mathlib.Omega.{arith}
 use mathlib.Core.Path.{◌≡◌, refl, sym, ◌∙◌}
@@ -8,8 +9,6 @@ use lib.Dec.{eqb, leb}
 use lib.ListN.{length}
 use borrow.Author.Tests.{leb-true, le-leb, eq-eqb, eqb-false}
 use Rattle.output.specs.Read.{value_from, in_difference, in_whole_difference}
-use Rattle.value.specs.declared.Parameter.{Parameter}
-use Rattle.value.specs.declared.Parameter.TheVariants.{Is, Bad}
 use Rattle.value.specs.Parameter.{whole, fraction, plain_decimal, units, decimal_ok, integer_difference_of, float_difference_of, period_of}
 use Rattle.value.proofs.ExactLaws.{reads, plain_only}
 use Rattle.machine.specs.declared.Sensor.{Sensor}
@@ -22,7 +21,7 @@ use Rattle.machine.proofs.TestLaws.{and_true, and_in}
 use Rattle.machine.proofs.PlacesLaws.{none_has}
 
 -- a parameter that is not bad passed its test
-passed_test : (b : Bool) (n : ℕ) → is_bad (cond b (Is n) Bad) ≡ false → (b ≡ true) × (number_of (cond b (Is n) Bad) ≡ n)
+passed_test : (b : Bool) (n : ℕ) → is_bad (cond b (Some n) None) ≡ false → (b ≡ true) × (number_of (cond b (Some n) None) ≡ n)
 passed_test true n h = (refl, refl)
 passed_test false n h = absurd (true≢false h)
 
@@ -53,7 +52,7 @@ pub period_fits : (t : List ℕ) → is_bad (period_of t) ≡ false → period_o
 unfolding period_of
 period_fits t h = rw a.1 (and_in (leb 1 (units 3 t)) (leb (units 3 t) 86400000) (le-leb 1 (units 3 t) d.lower) (le-leb (units 3 t) 86400000 d.upper))
   where
-    a : (decimal_ok 3 1 86400000 t ≡ true) × (number_of (cond (decimal_ok 3 1 86400000 t) (Is (units 3 t)) Bad) ≡ units 3 t)
+    a : (decimal_ok 3 1 86400000 t ≡ true) × (number_of (cond (decimal_ok 3 1 86400000 t) (Some (units 3 t)) None) ≡ units 3 t)
     a = passed_test (decimal_ok 3 1 86400000 t) (units 3 t) h
 
     d : Decimal 3 1 86400000 t
@@ -72,9 +71,9 @@ whole_out t h = let a = passed_test (decimal_ok 0 0 4294967295 t) (units 0 t * 1
     record { whole_number = a.1; whole_decimal = decimal_out 0 0 4294967295 t a.0 }
 
 -- a parameter that is not bad is a number
-number_is : (p : Parameter) → is_bad p ≡ false → p ≡ Is (number_of p)
-number_is (Is n) h = refl
-number_is Bad h = absurd (true≢false h)
+number_is : (p : Option ℕ) → is_bad p ≡ false → p ≡ Some (number_of p)
+number_is (Some n) h = refl
+number_is None h = absurd (true≢false h)
 
 -- digits without a fraction, in millionths
 units_whole : (w : ℕ) (f : List ℕ) → length f ≤ 0
@@ -130,11 +129,11 @@ differences_fit sheet js t h j k l m = go (any (λ j. is_bad (difference_for (se
     n : Sensor
     n = sensor_of sheet j
 
-    first : Parameter
+    first : Option ℕ
     first = difference_for (first_of sheet js) t
 
-    go : (b : Bool) → any (λ j. is_bad (difference_for (sensor_of sheet j) t)) js ≡ b → is_bad (cond b Bad first) ≡ false
-        → difference_ok n.kind (number_of (cond b Bad first)) ≡ true
+    go : (b : Bool) → any (λ j. is_bad (difference_for (sensor_of sheet j) t)) js ≡ b → is_bad (cond b None first) ≡ false
+        → difference_ok n.kind (number_of (cond b None first)) ≡ true
     go true e p = absurd (true≢false p)
     go false e p = let q = none_has (λ j. is_bad (difference_for (sensor_of sheet j) t)) js j e k in
         rw (difference_same (first_of sheet js) n t p q) (difference_fits n t l m q)

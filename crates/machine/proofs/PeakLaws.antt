@@ -4,7 +4,8 @@ use native.Mathlib.Omega.{arith}
 use mathlib.Core.Path.{◌≡◌, refl, ap, sym, ◌∙◌, subst}
 use mathlib.Core.Bool.{Bool, true, false, cond, ◌&&◌, ◌||◌, true≢false}
 use mathlib.Core.List.{List, [], ◌∷◌, ◌++◌, map, append_assoc, append-nil, append_cancel_left}
-use mathlib.Core.Option.{some, some-injective}
+use Rattle.std.specs.Prelude.{Some}
+use Rattle.std.proofs.lemmas.Option.{same_Some}
 use lib.Dec.{eqb, ltb}
 use borrow.Author.Tests.{eqb-true, ltb-true, ltb-false}
 use Rattle.value.specs.declared.Sample.{Sample}
@@ -59,25 +60,25 @@ module _ (sheet : Sheet) (j : ℕ) where
   reports_append (l ∷ ls) ys = ap (λ t. valid_in j (line_news sheet l) ++ t) (reports_append ls ys) ∙ sym (append_assoc (valid_in j (line_news sheet l)) _ _)
 
   -- a valid report that a line has just made the last
-  last_of_line : (P : Type 0) (w : News) (v : View) (r : Told) → valid_status r.status ≡ true → (view_after j w v).last ≡ some r
-      → (v.last ≡ some r → P) → (has r.value (valid_in j w) ≡ true → P) → P
+  last_of_line : (P : Type 0) (w : News) (v : View) (r : Told) → valid_status r.status ≡ true → (view_after j w v).last ≡ Some r
+      → (v.last ≡ Some r → P) → (has r.value (valid_in j w) ≡ true → P) → P
   unfolding view_after has any
   last_of_line P Other v r ok e old now = old e
   last_of_line P Impossible v r ok e old now = old e
   last_of_line P (Reported k s) v r ok e old now = go (eqb k j) e now
     where
-      go : (b : Bool) → (cond b (record { strategy = v.strategy; last = some s }) v).last ≡ some r
+      go : (b : Bool) → (cond b (record { strategy = v.strategy; last = Some s }) v).last ≡ Some r
           → (any (eqb r.value) (cond (b && valid_status s.status) (s.value ∷ []) []) ≡ true → P) → P
-      go true q f = f (rw (some-injective s r q, ok, eqb_refl r.value))
+      go true q f = f (rw (same_Some s r q, ok, eqb_refl r.value))
       go false q f = old q
   last_of_line P (SetTo js st) v r ok e old now = go (has j js) e
     where
-      go : (b : Bool) → (cond b (record { strategy = st; last = v.last }) v).last ≡ some r → P
+      go : (b : Bool) → (cond b (record { strategy = st; last = v.last }) v).last ≡ Some r → P
       go true q = old q
       go false q = old q
 
-  last_in : (P : Type 0) (ls : List (List ℕ)) (v : View) (r : Told) → valid_status r.status ≡ true → (view_in sheet j ls v).last ≡ some r
-      → (v.last ≡ some r → P) → (has r.value (valid_reports sheet j ls) ≡ true → P) → P
+  last_in : (P : Type 0) (ls : List (List ℕ)) (v : View) (r : Told) → valid_status r.status ≡ true → (view_in sheet j ls v).last ≡ Some r
+      → (v.last ≡ Some r → P) → (has r.value (valid_reports sheet j ls) ≡ true → P) → P
   unfolding view_in valid_reports
   last_in P [] v r ok e old now = old e
   last_in P (l ∷ ls) v r ok e old now = last_in P ls (view_after j (line_news sheet l) v) r ok e
@@ -87,17 +88,17 @@ module _ (sheet : Sheet) (j : ℕ) where
 -- Readings under a strategy that has a reach.
 
 module _ (n : Sensor) (clock : ℕ) (x : Sample) (r : Told) where
-  reached : (st : Strategy) (w : ℕ) → reach n st ≡ some w → Known n clock x st r → (status_for n x ≡ r.status) × (is_valid x ≡ true → apart x.number r.value * 1000000 ≤ w)
+  reached : (st : Strategy) (w : ℕ) → reach n st ≡ Some w → Known n clock x st r → (status_for n x ≡ r.status) × (is_valid x ≡ true → apart x.number r.value * 1000000 ≤ w)
   reached None w e k = absurd (none_some w e)
   reached Auto w e k = (k.0, λ _. omega (arith, k.1))
   reached (Period p) w e k = absurd (none_some w e)
   reached Event w e k = (k.0, λ _. omega (arith, k.1))
-  reached (Differential d) w e k = (k.0, λ v. omega (arith, k.1 v, some-injective (width n d) w e))
+  reached (Differential d) w e k = (k.0, λ v. omega (arith, k.1 v, same_Some (width n d) w e))
   reached (EventRate a b) w e k = absurd (none_some w e)
   reached (DifferentialRate d a b) w e k = absurd (none_some w e)
 
 -- a strategy that has one is not none
-reach_some : (n : Sensor) (st : Strategy) (w : ℕ) → reach n st ≡ some w → is_none st ≡ false
+reach_some : (n : Sensor) (st : Strategy) (w : ℕ) → reach n st ≡ Some w → is_none st ≡ false
 unfolding is_none
 reach_some n None w e = absurd (none_some w e)
 reach_some n Auto w e = refl
@@ -112,7 +113,7 @@ abbrev Covered : Start → ℕ → ℕ → List (List ℕ) → Sample → Type 0
 Covered start j w file x = is_valid x ≡ true → (v : ℕ) × ((has v (valid_reports (sheet_of start) j file) ≡ true) × (apart x.number v * 1000000 ≤ w))
 
 -- at a moment whose lines are a start of the file
-covered_then : (start : Start) (a j w : ℕ) (st : Strategy) → j < (sheet_of start).count → reach (sensor_of (sheet_of start) j) st ≡ some w
+covered_then : (start : Start) (a j w : ℕ) (st : Strategy) → j < (sheet_of start).count → reach (sensor_of (sheet_of start) j) st ≡ Some w
     → (file : List (List ℕ)) (g : List Call) (rest : List (List ℕ)) → connected_at_end start a g ≡ true → file ≡ lines_of start a g ++ rest → strategy_of start a j g ≡ st
     → Covered start j w file (reading_at start j g)
 covered_then start a j w st hs re file g rest on f set valid = (
@@ -130,7 +131,7 @@ covered_then start a j w st hs re file g rest on f set valid = (
     n : Sensor
     n = sensor_of (sheet_of start) j
 
-    told : (r : Told) × ((file_view (sheet_of start) j (lines_of start a g)).last ≡ some r)
+    told : (r : Told) × ((file_view (sheet_of start) j (lines_of start a g)).last ≡ Some r)
     told = t.reading_told.was_reported (ap is_none (t.strategy_told ∙ set) ∙ reach_some n st w re)
 
     r : Told
@@ -144,7 +145,7 @@ covered_then start a j w st hs re file g rest on f set valid = (
     listed = last_in (sheet_of start) j (has r.value (valid_reports (sheet_of start) j (lines_of start a g)) ≡ true) (lines_of start a g) _ r
         (ap valid_status (sym near.0) ∙ (sym (valid_is n (reading_at start j g)) ∙ valid)) told.1 (λ q. absurd (none_some r q)) (λ q. q)
 
-module _ (start : Start) (a j w : ℕ) (st : Strategy) (later h : List Call) (u : Under start a j st later h) (re : reach (sensor_of (sheet_of start) j) st ≡ some w) where
+module _ (start : Start) (a j w : ℕ) (st : Strategy) (later h : List Call) (u : Under start a j st later h) (re : reach (sensor_of (sheet_of start) j) st ≡ Some w) where
   abbrev file : List (List ℕ)
   file = lines_of start a (later ++ h)
 
@@ -186,7 +187,7 @@ module _ (sheet : Sheet) (j : ℕ) (st : Strategy) where
   unfolding view_after
   kept_by Other v e k = e
   kept_by Impossible v e k = e
-  kept_by (Reported i r) v e k = cond_either (λ (x : View). x.strategy ≡ st) (eqb i j) (record { strategy = v.strategy; last = some r }) v e e
+  kept_by (Reported i r) v e k = cond_either (λ (x : View). x.strategy ≡ st) (eqb i j) (record { strategy = v.strategy; last = Some r }) v e e
   kept_by (SetTo js new) v e k = cond_cases (λ (x : View). x.strategy ≡ st) (has j js) (record { strategy = new; last = v.last }) v k (λ _. e)
 
   kept_in : (ls : List (List ℕ)) (v : View) → v.strategy ≡ st → Each (λ l. KeepsStrategy j st (line_news sheet l)) ls → (view_in sheet j ls v).strategy ≡ st

@@ -1,4 +1,5 @@
 -- Samples that a sensor can have: their numbers and statuses; those of a state, after a tick and after a reading.
+use Rattle.std.specs.Prelude.{Some, None, Option}
 use Prim.Native.Nat.{ℕ, ◌^◌, ◌≤◌, ◌<◌}
 use native.Mathlib.Omega.{arith}
 use mathlib.Core.Path.{◌≡◌, refl, sym, subst}
@@ -7,8 +8,6 @@ use lib.Dec.{eqb, leb, ltb}
 use borrow.Author.Tests.{eqb-true, lt-ltb}
 use Rattle.value.specs.declared.Limits.{Limits}
 use Rattle.value.specs.declared.Sample.{Sample}
-use Rattle.value.specs.declared.Sampled.{Sampled}
-use Rattle.value.specs.declared.Sampled.TheVariants.{As, Unfit}
 use Rattle.value.specs.Reading.{zero_of, sample_of, number_fits, sample_fits}
 use Rattle.value.specs.Status.{is_nominal, is_warn, range_status, status_of}
 use Rattle.value.proofs.SampleLaws.{sample_fits_lem, fresh_fits}
@@ -118,9 +117,9 @@ pub given_fits : (n : Sensor) (g : Arrival) → sample_ok n (sample_given n g) �
 unfolding sample_given
 given_fits n g = go (sample_of n.kind n.option_count g.reading) refl
   where
-    go : (a : Sampled) → sample_of n.kind n.option_count g.reading ≡ a → sample_ok n (sample_in n.kind a) ≡ true
-    go (As x) e = sample_fits_lem n.kind n.option_count g.reading x e
-    go Unfit e = fresh_fits n.kind n.option_count
+    go : (a : Option Sample) → sample_of n.kind n.option_count g.reading ≡ a → sample_ok n (sample_in n.kind a) ≡ true
+    go (Some x) e = sample_fits_lem n.kind n.option_count g.reading x e
+    go None e = fresh_fits n.kind n.option_count
 
 -- the clock and the readings of a state can be reported
 pub record Reportable (s : State) : Type 0 where

@@ -1,4 +1,5 @@
 -- A `sensor-sampling` that is not declined: its sensors are on the sheet, each once, and the strategy suits each of them.
+use Rattle.std.specs.Prelude.{Option}
 use Prim.Native.Nat.{ℕ, zero, suc, ◌+◌, ◌≤◌, ◌<◌}
 use native.Mathlib.Omega.{arith}
 use mathlib.Core.Path.{◌≡◌, refl, ap, sym, ◌∙◌}
@@ -9,7 +10,6 @@ use lib.ListN.{length, get_or, drop, length-map}
 use borrow.Author.Tests.{leb-false, le-leb, ltb-false, not-false}
 use Rattle.output.specs.Text.{all}
 use Rattle.message.specs.Message.{Message}
-use Rattle.value.specs.declared.Parameter.{Parameter}
 use Rattle.value.specs.Reading.{is_measured}
 use Rattle.value.specs.Parameter.{period_of, shortest_of}
 use Rattle.machine.specs.declared.Sheet.{Sheet}
@@ -33,11 +33,11 @@ rates_fit a b h k = and_in (leb a b) (period_ok b) (le-leb a b (ltb-false b a k)
 
 -- parameters that are not bad
 
-one_good : (x : Parameter) → any is_bad (x ∷ []) ≡ false → is_bad x ≡ false
+one_good : (x : Option ℕ) → any is_bad (x ∷ []) ≡ false → is_bad x ≡ false
 unfolding any
 one_good x h = (or_false (is_bad x) false h).0
 
-two_good : (x y : Parameter) → any is_bad (x ∷ y ∷ []) ≡ false → (is_bad x ≡ false) × (is_bad y ≡ false)
+two_good : (x y : Option ℕ) → any is_bad (x ∷ y ∷ []) ≡ false → (is_bad x ≡ false) × (is_bad y ≡ false)
 unfolding any
 two_good x y h = let a = or_false (is_bad x) (is_bad y || false) h in (a.0, one_good y a.1)
 

@@ -3,7 +3,7 @@ use Prim.Native.Nat.{ℕ, ◌≤◌, ◌<◌}
 use native.Mathlib.Nat.{le_trans}
 use native.Mathlib.Omega.{arith}
 use mathlib.Core.Path.{◌≡◌, refl, sym, ◌∙◌, subst}
-use mathlib.Core.Option.{some}
+use Rattle.std.specs.Prelude.{Some}
 use mathlib.Core.Bool.{Bool, true, false, cond, not, ◌&&◌}
 use mathlib.Core.List.{List, [], ◌∷◌, map}
 use lib.Dec.{eqb, ltb}
@@ -87,7 +87,7 @@ named_short : (rows : List Row) → Each (λ (r : Row). ltb 15 (length r.name) �
 named_short [] h profile name e = absurd (omega arith)
 named_short (r ∷ rows) h profile name e = go (same r.name name) refl e (named_short rows h.1 profile name)
   where
-    go : (b : Bool) → same r.name name ≡ b → help_declined profile (cond b (some r.request) (request_in rows name)) ≡ 0 → (help_declined profile (request_in rows name) ≡ 0 → length name ≤ 15) → length name ≤ 15
+    go : (b : Bool) → same r.name name ≡ b → help_declined profile (cond b (Some r.request) (request_in rows name)) ≡ 0 → (help_declined profile (request_in rows name) ≡ 0 → length name ≤ 15) → length name ≤ 15
     go true q e ih = subst (λ t. length t ≤ 15) (same_true r.name name q) (ltb-false 15 (length r.name) h.0)
     go false q e ih = ih e
 

@@ -4,7 +4,8 @@ use native.Mathlib.Omega.{arith}
 use mathlib.Core.Path.{◌≡◌, refl, ap, sym, ◌∙◌, subst₂}
 use mathlib.Core.Bool.{Bool, true, false, cond, not, ◌&&◌, ◌||◌, true≢false}
 use mathlib.Core.List.{List, [], ◌∷◌, ◌++◌, map}
-use mathlib.Core.Option.{some, some-injective}
+use Rattle.std.specs.Prelude.{Some}
+use Rattle.std.proofs.lemmas.Option.{same_Some}
 use lib.Dec.{eqb, leb, ltb}
 use lib.ListN.{get_or}
 use borrow.Author.Tests.{lt-leb, lt-ltb, ltb-false}
@@ -133,14 +134,14 @@ served_zero s call e = each_weaker (Within s) (To 0) (λ d l. zero_only s.sheet.
 
 -- A client above 0.
 
-above_zero : (s : State) (call : Call) (c : ℕ) → OnSingle s call.lent → client_named call.action ≡ some c → 0 < c → step s call ≡ silently s 32
+above_zero : (s : State) (call : Call) (c : ℕ) → OnSingle s call.lent → client_named call.action ≡ Some c → 0 < c → step s call ≡ silently s 32
 unfolding outcome action_declined client_declined refusal
 above_zero s call c on named l = ap (outcome s.sheet s call.action) (own_rows s call on.in_range_lem on.room on.running) ∙ go call.action named
   where
-    above : (k : ℕ) → some k ≡ some c → ltb 0 k ≡ true
-    above k e = lt-ltb 0 k (omega (arith, some-injective k c e))
+    above : (k : ℕ) → Some k ≡ Some c → ltb 0 k ≡ true
+    above k e = lt-ltb 0 k (omega (arith, same_Some k c e))
 
-    go : (action : Action) → client_named action ≡ some c → outcome s.sheet s action (action_declined s.sheet s action) ≡ silently s 32
+    go : (action : Action) → client_named action ≡ Some c → outcome s.sheet s action (action_declined s.sheet s action) ≡ silently s 32
     go (Connect k address) e = rw (on.single_client, above k e)
     go (Disconnect k) e = rw (on.single_client, above k e)
     go (Tick t) e = absurd (none_some c e)

@@ -5,7 +5,7 @@ use native.Mathlib.Omega.{arith}
 use mathlib.Core.Path.{◌≡◌, refl, ap, sym, ◌∙◌, subst}
 use mathlib.Core.Bool.{Bool, true, false, cond, not, ◌||◌, true≢false}
 use mathlib.Core.List.{List, []}
-use mathlib.Core.Option.{Option, none, some}
+use Rattle.std.specs.Prelude.{Option, None, Some}
 use lib.Dec.{eqb, ltb}
 use lib.ListN.{length}
 use borrow.Author.Tests.{leb-false, ltb-false, le-ltb, eqb-true, not-false}
@@ -159,13 +159,13 @@ name_for VersionList = text "version-list"
 name_for Watchdog = text "watchdog"
 
 abbrev Named : List ℕ → Option Request → Type 0
-Named name none = Unit
-Named name (some r) = name ≡ name_for r
+Named name None = Unit
+Named name (Some r) = name ≡ name_for r
 
-row_named : (name : List ℕ) (t : List ℕ) (r : Request) (rest : Option Request) → name_for r ≡ t → Named name rest → Named name (cond (same t name) (some r) rest)
+row_named : (name : List ℕ) (t : List ℕ) (r : Request) (rest : Option Request) → name_for r ≡ t → Named name rest → Named name (cond (same t name) (Some r) rest)
 row_named name t r rest e h = go (same t name) refl
   where
-    go : (b : Bool) → same t name ≡ b → Named name (cond b (some r) rest)
+    go : (b : Bool) → same t name ≡ b → Named name (cond b (Some r) rest)
     go true q = sym (e ∙ same_true t name q)
     go false q = h
 
@@ -182,12 +182,12 @@ named name =
     (row_named name (text "sensor-sampling") SensorSampling _ refl
     (row_named name (text "sensor-value") SensorValue _ refl
     (row_named name (text "version-list") VersionList _ refl
-    (row_named name (text "watchdog") Watchdog none refl tt)))))))))
+    (row_named name (text "watchdog") Watchdog None refl tt)))))))))
 
-pub request_name : (name : List ℕ) (r : Request) → request_named name ≡ some r → name ≡ name_for r
+pub request_name : (name : List ℕ) (r : Request) → request_named name ≡ Some r → name ≡ name_for r
 request_name name r e = subst (Named name) e (named name)
 
-pub request_found : (r : Request) → request_named (name_for r) ≡ some r
+pub request_found : (r : Request) → request_named (name_for r) ≡ Some r
 unfolding request_named
 request_found ClientList = refl
 request_found Halt = refl
@@ -228,8 +228,8 @@ unfolding asked
 meant line = go (blank_line line) (parse line) refl
   where
     by_name : (m : Message) → parse line ≡ message m → m.kind ≡ code "?" → (o : Option Request) → Named m.name o → Meant line (asked_for o m)
-    by_name m e k none n = record { parsed = e; asks = k }
-    by_name m e k (some r) n = record { parsed = e; asks = k; named = n }
+    by_name m e k None n = record { parsed = e; asks = k }
+    by_name m e k (Some r) n = record { parsed = e; asks = k; named = n }
 
     by_kind : (m : Message) → parse line ≡ message m → (a b : Bool) → eqb m.kind (code "#") ≡ a → eqb m.kind (code "!") ≡ b
         → Meant line (cond a Nothing (cond b Reply (asked_for (request_named m.name) m)))
@@ -262,8 +262,8 @@ request_asked line m e k = go (blank_line line) refl
     go false q = rw (e, k)
 
 request_or : Option Request → Request
-request_or none = ClientList
-request_or (some r) = r
+request_or None = ClientList
+request_or (Some r) = r
 
 -- two requests of one name are the same
 pub names_apart_lem : (q r : Request) → name_for q ≡ name_for r → q ≡ r

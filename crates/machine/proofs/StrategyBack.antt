@@ -4,7 +4,7 @@ use native.Mathlib.Omega.{arith}
 use mathlib.Core.Path.{◌≡◌, refl}
 use mathlib.Core.Bool.{Bool, true, false, cond, ◌&&◌}
 use mathlib.Core.List.{List, [], ◌∷◌}
-use mathlib.Core.Option.{some}
+use Rattle.std.specs.Prelude.{Some}
 use lib.Dec.{eqb}
 use lib.ListN.{length}
 use borrow.Author.Tests.{le-leb, eqb-true}
@@ -60,25 +60,25 @@ strategy_by_lem (Differential d) = refl
 strategy_by_lem (EventRate a b) = refl
 strategy_by_lem (DifferentialRate d a b) = refl
 
-difference_read : (n : Sensor) (d : ℕ) → difference_ok n.kind d ≡ true → read_difference_for n (difference_text n d) ≡ some d
+difference_read : (n : Sensor) (d : ℕ) → difference_ok n.kind d ≡ true → read_difference_for n (difference_text n d) ≡ Some d
 unfolding read_difference_for difference_text difference_ok
 difference_read n d h = go (eqb n.kind 1) h
   where
     go : (b : Bool) → cond b (in_whole_difference d) (eqb n.kind 2 && in_difference d) ≡ true
-        → cond b (read_whole_difference (cond b (whole_difference d) (difference d))) (read_difference (cond b (whole_difference d) (difference d))) ≡ some d
+        → cond b (read_whole_difference (cond b (whole_difference d) (difference d))) (read_difference (cond b (whole_difference d) (difference d))) ≡ Some d
     go true k = whole_differences.back d k
     go false k = differences.back d (and_true (eqb n.kind 2) (in_difference d) k).1
 
-period_read : (p : ℕ) → p ≤ 86400000 → read_time (time p) ≡ some p
+period_read : (p : ℕ) → p ≤ 86400000 → read_time (time p) ≡ Some p
 period_read p h = times.back p (le-leb p 9999999999999 (omega arith))
 
 -- "shortest .. longest", as they are read
-rates_read : (a b : ℕ) → rates_ok a b ≡ true → (read_time (time a) ≡ some a) × (read_time (time b) ≡ some b)
+rates_read : (a b : ℕ) → rates_ok a b ≡ true → (read_time (time a) ≡ Some a) × (read_time (time b) ≡ Some b)
 rates_read a b h = let q = rates_most a b h in (period_read a q.0, period_read b q.1)
 
 -- the parameters read back, for a sensor that can have the strategy
 pub parameters_read_lem : (n : Sensor) (st : Strategy) → strategy_ok n.kind st ≡ true
-    → all_numbers (parameters_read n (strategy_kind st) (parameter_texts n st)) ≡ some (numbers_of st)
+    → all_numbers (parameters_read n (strategy_kind st) (parameter_texts n st)) ≡ Some (numbers_of st)
 unfolding parameters_read numbers_of strategy_ok
 parameters_read_lem n None h = refl
 parameters_read_lem n Auto h = refl

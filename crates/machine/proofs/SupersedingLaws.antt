@@ -1,19 +1,16 @@
 -- The reading that is stored of a sensor, by the last that superseded the one before it.
+use Rattle.value.specs.declared.Sample.{Sample}
 use Prim.Native.Nat.{ℕ, ◌<◌}
 use native.Mathlib.Omega.{arith}
 use mathlib.Core.Path.{◌≡◌, refl, ap, ap₂, sym, ◌∙◌, subst}
 use mathlib.Core.Bool.{Bool, true, false, cond, ◌&&◌, ◌||◌, or-false}
 use mathlib.Core.List.{List}
-use mathlib.Core.Option.{Option, none, some}
+use Rattle.std.specs.Prelude.{Option, None, Some}
 use lib.Dec.{eqb, leb, ltb}
 use lib.ListN.{get_or}
 use borrow.Author.Tests.{eqb-true, le-leb}
-use Rattle.value.specs.declared.Fit.{Fit}
-use Rattle.value.specs.declared.Fit.TheVariants.{At, Out}
 use Rattle.value.specs.declared.Reading.{Reading as Given}
 use Rattle.value.specs.declared.Reading.TheVariants.{Integer, Float, Boolean, Option as Choice, Timestamp, Failure, Unreachable, Inactive}
-use Rattle.value.specs.declared.Sampled.{Sampled}
-use Rattle.value.specs.declared.Sampled.TheVariants.{As, Unfit}
 use Rattle.value.specs.Double.{exact1024}
 use Rattle.value.specs.Integer.{is_signed32}
 use Rattle.value.specs.Reading.{of_fit, sample_of}
@@ -35,21 +32,21 @@ use Rattle.machine.proofs.NextLaws.{line_keeps}
 -- No reading is unknown.
 
 -- a sample is not that of a fresh sensor
-abbrev NotFresh : Sampled → Type 0
-NotFresh (As x) = is_unknown x ≡ false
-NotFresh Unfit = Unit
+abbrev NotFresh : Option Sample → Type 0
+NotFresh (Some x) = is_unknown x ≡ false
+NotFresh None = Unit
 
 never_fresh : (t options : ℕ) (r : Given) → NotFresh (sample_of t options r)
 unfolding sample_of
-never_fresh t options (Integer x) = cond_either NotFresh (eqb t 1) _ Unfit (cond_either NotFresh (is_signed32 x) _ Unfit refl tt) tt
-never_fresh t options (Float x) = cond_either NotFresh (eqb t 2) (of_fit (exact1024 x)) Unfit (fit (exact1024 x)) tt
+never_fresh t options (Integer x) = cond_either NotFresh (eqb t 1) _ None (cond_either NotFresh (is_signed32 x) _ None refl tt) tt
+never_fresh t options (Float x) = cond_either NotFresh (eqb t 2) (of_fit (exact1024 x)) None (fit (exact1024 x)) tt
   where
-    fit : (f : Fit) → NotFresh (of_fit f)
-    fit (At n) = refl
-    fit Out = tt
-never_fresh t options (Boolean b) = cond_either NotFresh (eqb t 3) _ Unfit (cond_either NotFresh (ltb b 2) _ Unfit refl tt) tt
-never_fresh t options (Choice i) = cond_either NotFresh (eqb t 4) _ Unfit (cond_either NotFresh (ltb i options) _ Unfit refl tt) tt
-never_fresh t options (Timestamp m) = cond_either NotFresh (eqb t 5) _ Unfit (cond_either NotFresh (ltb m 10000000000000) _ Unfit refl tt) tt
+    fit : (f : Option ℕ) → NotFresh (of_fit f)
+    fit (Some n) = refl
+    fit None = tt
+never_fresh t options (Boolean b) = cond_either NotFresh (eqb t 3) _ None (cond_either NotFresh (ltb b 2) _ None refl tt) tt
+never_fresh t options (Choice i) = cond_either NotFresh (eqb t 4) _ None (cond_either NotFresh (ltb i options) _ None refl tt) tt
+never_fresh t options (Timestamp m) = cond_either NotFresh (eqb t 5) _ None (cond_either NotFresh (ltb m 10000000000000) _ None refl tt) tt
 never_fresh t options Failure = refl
 never_fresh t options Unreachable = refl
 never_fresh t options Inactive = refl
@@ -58,15 +55,15 @@ given_not_fresh : (n : Sensor) (r : Arrival) → sampled_number (sample_of n.kin
 unfolding sample_given
 given_not_fresh n r d = go (sample_of n.kind n.option_count r.reading) (never_fresh n.kind n.option_count r.reading) d
   where
-    go : (a : Sampled) → NotFresh a → sampled_number a ≡ 0 → is_unknown (sample_in n.kind a) ≡ false
-    go (As x) h e = h
-    go Unfit h e = absurd (omega arith)
+    go : (a : Option Sample) → NotFresh a → sampled_number a ≡ 0 → is_unknown (sample_in n.kind a) ≡ false
+    go (Some x) h e = h
+    go None h e = absurd (omega arith)
 
 -- What is stored.
 
 abbrev is_fresh : Option Arrival → Bool
-is_fresh none = true
-is_fresh (some r) = false
+is_fresh None = true
+is_fresh (Some r) = false
 
 -- x is what is stored of a sensor whose present reading is o: its sample and its time, unknown exactly where there was no reading
 pub record StoredBy (n : Sensor) (x : Stored) (o : Option Arrival) : Type 0 where
@@ -80,8 +77,8 @@ unfolding supersedes
 supersedes_is n x o t h = ap₂ (λ k b. leb k t || b) h.time_is h.fresh_is ∙ go o
   where
     go : (o : Option Arrival) → (leb (time_from o) t || is_fresh o) ≡ superseding t o
-    go none = ap (λ b. b || true) (le-leb 0 t (omega arith))
-    go (some r) = or-false (leb r.time t)
+    go None = ap (λ b. b || true) (le-leb 0 t (omega arith))
+    go (Some r) = or-false (leb r.time t)
 
 -- a reading that supersedes is stored, and no other sensor's is touched
 pub stored_next : (s : State) (k j : ℕ) → j < 32 → (r : Arrival) → stored_of (reading_stored s.sheet s k r).next j ≡ cond (eqb k j) (stored_given (sensor_of s.sheet k) r) (stored_of s j)
@@ -90,23 +87,23 @@ stored_next s k j hj r = stored_after s k j (stored_given (sensor_of s.sheet k) 
 -- A call.
 
 reading_stored_lem : (s : State) (j : ℕ) → j < 32 → (k : ℕ) (r : Arrival) → action_declined s.sheet s (Reading k r) ≡ 0 → (o : Option Arrival) → StoredBy (sensor_of s.sheet j) (stored_of s j) o
-    → StoredBy (sensor_of s.sheet j) (stored_of (perform s.sheet s (Reading k r)).next j) (cond (eqb k j && superseding r.time o) (some r) o)
+    → StoredBy (sensor_of s.sheet j) (stored_of (perform s.sheet s (Reading k r)).next j) (cond (eqb k j && superseding r.time o) (Some r) o)
 reading_stored_lem s j hj k r d o h = go (eqb k j) refl
   where
     n : Sensor
     n = sensor_of s.sheet j
 
-    go : (b : Bool) → eqb k j ≡ b → StoredBy n (stored_of (perform s.sheet s (Reading k r)).next j) (cond (b && superseding r.time o) (some r) o)
+    go : (b : Bool) → eqb k j ≡ b → StoredBy n (stored_of (perform s.sheet s (Reading k r)).next j) (cond (b && superseding r.time o) (Some r) o)
     go false e = by_superseding (λ (w : Work). StoredBy n (stored_of w.next j) o) s.sheet s k r
         (λ _. subst (λ (x : Stored). StoredBy n x o) (sym (stored_next s k j hj r ∙ rw e)) h) (λ _. h)
-    go true e = subst (λ i. action_declined s.sheet s (Reading i r) ≡ 0 → StoredBy n (stored_of (perform s.sheet s (Reading i r)).next j) (cond (superseding r.time o) (some r) o)) (sym (eqb-true k j e)) own d
+    go true e = subst (λ i. action_declined s.sheet s (Reading i r) ≡ 0 → StoredBy n (stored_of (perform s.sheet s (Reading i r)).next j) (cond (superseding r.time o) (Some r) o)) (sym (eqb-true k j e)) own d
       where
         -- the reading is of this sensor
-        own : action_declined s.sheet s (Reading j r) ≡ 0 → StoredBy n (stored_of (perform s.sheet s (Reading j r)).next j) (cond (superseding r.time o) (some r) o)
-        own d = by_superseding (λ (w : Work). StoredBy n (stored_of w.next j) (cond (superseding r.time o) (some r) o)) s.sheet s j r
-            (λ t. subst (λ b. StoredBy n (stored_of (reading_stored s.sheet s j r).next j) (cond b (some r) o)) (sym t ∙ supersedes_is n (stored_of s j) o r.time h)
-            (subst (λ (x : Stored). StoredBy n x (some r)) (sym (stored_next s j j hj r ∙ cond_true (eqb j j) _ _ (eqb_refl j))) (record { sample_is = refl; time_is = refl; fresh_is = given_not_fresh n r (reading_fits s j r d).fit })))
-            (λ t. subst (λ b. StoredBy n (stored_of s j) (cond b (some r) o)) (sym t ∙ supersedes_is n (stored_of s j) o r.time h) h)
+        own : action_declined s.sheet s (Reading j r) ≡ 0 → StoredBy n (stored_of (perform s.sheet s (Reading j r)).next j) (cond (superseding r.time o) (Some r) o)
+        own d = by_superseding (λ (w : Work). StoredBy n (stored_of w.next j) (cond (superseding r.time o) (Some r) o)) s.sheet s j r
+            (λ t. subst (λ b. StoredBy n (stored_of (reading_stored s.sheet s j r).next j) (cond b (Some r) o)) (sym t ∙ supersedes_is n (stored_of s j) o r.time h)
+            (subst (λ (x : Stored). StoredBy n x (Some r)) (sym (stored_next s j j hj r ∙ cond_true (eqb j j) _ _ (eqb_refl j))) (record { sample_is = refl; time_is = refl; fresh_is = given_not_fresh n r (reading_fits s j r d).fit })))
+            (λ t. subst (λ b. StoredBy n (stored_of s j) (cond b (Some r) o)) (sym t ∙ supersedes_is n (stored_of s j) o r.time h) h)
 
 pub perform_stored : (s : State) (j : ℕ) → j < 32 → (action : Action) → action_declined s.sheet s action ≡ 0 → (o : Option Arrival) → StoredBy (sensor_of s.sheet j) (stored_of s j) o
     → StoredBy (sensor_of s.sheet j) (stored_of (perform s.sheet s action).next j) (reading_by j action o)

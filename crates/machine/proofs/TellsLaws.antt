@@ -4,7 +4,8 @@ use native.Mathlib.Omega.{arith}
 use mathlib.Core.Path.{◌≡◌, refl, ap, sym, ◌∙◌, subst}
 use mathlib.Core.Bool.{Bool, true, false, cond}
 use mathlib.Core.List.{List, [], ◌∷◌, ◌++◌, map}
-use mathlib.Core.Option.{Option, none, some, some-injective}
+use Rattle.std.specs.Prelude.{Option, None, Some}
+use Rattle.std.proofs.lemmas.Option.{same_Some}
 use lib.ListN.{take}
 use Rattle.message.specs.Message.{Message, line}
 use Rattle.message.specs.Delivery.{Delivery}
@@ -13,7 +14,7 @@ use Rattle.value.specs.declared.Sample.{Sample}
 use Rattle.machine.specs.declared.Sensor.{Sensor}
 use Rattle.machine.specs.declared.Sheet.{Sheet}
 use Rattle.machine.specs.declared.Strategy.{Strategy}
-use Rattle.machine.specs.declared.Strategy.TheVariants.{None, Auto, Period, Event, Differential, EventRate, DifferentialRate}
+use Rattle.machine.specs.declared.Strategy.TheVariants.{None as NoStrategy, Auto, Period, Event, Differential, EventRate, DifferentialRate}
 use Rattle.machine.specs.declared.Subscription.{Subscription}
 use Rattle.machine.specs.Places.{Each, joined}
 use Rattle.machine.specs.Sheet.{sensor_of}
@@ -54,15 +55,15 @@ unfolding view_in
 view_in_append sheet j [] ys v = refl
 view_in_append sheet j (l ∷ ls) ys v = view_in_append sheet j ls ys (view_after j (line_news sheet l) v)
 
-later_none : (o : Option Told) → later o none ≡ o
-later_none none = refl
-later_none (some r) = refl
+later_none : (o : Option Told) → later o None ≡ o
+later_none None = refl
+later_none (Some r) = refl
 
 -- What is held, told.
 
 -- what is known at a clock was known at an earlier one
 pub known_earlier : (n : Sensor) (now clock : ℕ) (x : Sample) (st : Strategy) (r : Told) → now ≤ clock → Known n clock x st r → Known n now x st r
-known_earlier n now clock x None r h k = tt
+known_earlier n now clock x NoStrategy r h k = tt
 known_earlier n now clock x Auto r h k = k
 known_earlier n now clock x (Period p) r h k = tt
 known_earlier n now clock x Event r h k = k
@@ -77,8 +78,8 @@ good_tells n clock x p g = record {
   tells = λ r e now h. known_earlier n now clock x p.strategy r h (subst (Known n clock x p.strategy) (same r p.reported e) g.known);
 }
   where
-    same : (r : Told) (b : Bool) → cond b (some (told_of n p.time p.sample)) none ≡ some r → told_of n p.time p.sample ≡ r
-    same r true e = some-injective (told_of n p.time p.sample) r e
+    same : (r : Told) (b : Bool) → cond b (Some (told_of n p.time p.sample)) None ≡ Some r → told_of n p.time p.sample ≡ r
+    same r true e = same_Some (told_of n p.time p.sample) r e
     same r false e = absurd (none_some r e)
 
 pub sheet_rules : (start : Start) → Sensors (sheet_of start)

@@ -3,7 +3,7 @@ use Prim.Native.Nat.{ℕ, suc, ◌<◌}
 use native.Mathlib.Omega.{arith}
 use mathlib.Core.Path.{◌≡◌, refl, ap, sym}
 use mathlib.Core.Bool.{Bool, true, false, cond, not, ◌&&◌, ◌||◌, true≢false}
-use mathlib.Core.Option.{Option, none, some}
+use Rattle.std.specs.Prelude.{Option, None, Some}
 use lib.Dec.{eqb}
 use borrow.Author.Tests.{eqb-true, eqb-false, eq-eqb, ne_eqb}
 
@@ -74,10 +74,10 @@ cond_ap f false x y = refl
 
 module _ {A : Type 0} where
   abbrev is_there : Option A → Bool
-  is_there none = false
-  is_there (some x) = true
+  is_there None = false
+  is_there (Some x) = true
 
-  pub none_some : (x : A) → none ≡ some x → ⊥
+  pub none_some : (x : A) → None ≡ Some x → ⊥
   none_some x e = true≢false (sym (ap is_there e))
 
 -- a row of a table that did not decline

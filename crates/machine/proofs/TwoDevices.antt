@@ -4,7 +4,7 @@ use native.Mathlib.Omega.{arith}
 use mathlib.Core.Path.{◌≡◌, refl, ap, sym, ◌∙◌, subst, subst₂}
 use mathlib.Core.Bool.{Bool, true, false}
 use mathlib.Core.List.{map}
-use mathlib.Core.Option.{Option, some}
+use Rattle.std.specs.Prelude.{Option, Some}
 use Rattle.message.specs.Message.{line}
 use Rattle.value.specs.declared.Sample.{Sample}
 use Rattle.machine.specs.declared.Sensor.{Sensor}
@@ -46,7 +46,7 @@ module _ (n : Sensor) (now₁ now₂ : ℕ) (x y : Sample) where
       valid v = valid_is n y ∙ (ap valid_status (sym e) ∙ (sym (valid_is n x) ∙ v))
 
   alike_of : (st : Strategy) (r : Told) → Known n now₁ x st r → Known n now₂ y st r
-      → Alike n st (λ s. Passed s now₁ (some r) × Passed s now₂ (some r)) x y
+      → Alike n st (λ s. Passed s now₁ (Some r) × Passed s now₂ (Some r)) x y
   alike_of None r k l = tt
   alike_of Auto r k l = equal_of r k l
   alike_of (Period p) r k l = tt
@@ -57,7 +57,7 @@ module _ (n : Sensor) (now₁ now₂ : ℕ) (x y : Sample) where
 
 -- for the two devices' own strategies and reports, which are equal
 alike_both : (n : Sensor) (now₁ now₂ : ℕ) (x y : Sample) (st st' : Strategy) (o o' : Option Told) (r t : Told)
-    → st ≡ st' → o ≡ o' → o ≡ some r → o' ≡ some t → Known n now₁ x st r → Known n now₂ y st' t
+    → st ≡ st' → o ≡ o' → o ≡ Some r → o' ≡ Some t → Known n now₁ x st r → Known n now₂ y st' t
     → Alike n st (λ s. Passed s now₁ o × Passed s now₂ o') x y
 alike_both n now₁ now₂ x y st st' o o' r t e w p q k l =
     subst₂ (λ (a b : Option Told). Alike n st (λ s. Passed s now₁ a × Passed s now₂ b) x y) (sym p) (sym q') (alike_of n now₁ now₂ x y st r k l')
@@ -65,7 +65,7 @@ alike_both n now₁ now₂ x y st st' o o' r t e w p q k l =
     one : t ≡ r
     one = cc
 
-    q' : o' ≡ some r
+    q' : o' ≡ Some r
     q' = cc
 
     l' : Known n now₂ y st r
@@ -92,7 +92,7 @@ module _ (start : Start) (d : Device) (c : archive_connected start d ≡ true) (
   }
 
   -- what the archive knows
-  knows : is_none (strategy start d j) ≡ false → (r : Told) × ((report start d j ≡ some r)
+  knows : is_none (strategy start d j) ≡ false → (r : Told) × ((report start d j ≡ Some r)
       × Known (sensor_of (sheet_of start) j) (clock start d) (reading start d j) (strategy start d j) r)
   knows e = let r = t.reading_told.was_reported (ap is_none t.strategy_told ∙ e) in
       (r.0, (sym t.report_told_lem ∙ r.1, subst (λ st. Known (sensor_of (sheet_of start) j) (clock start d) (reading start d j) st r.0) t.strategy_told (t.reading_told.tells r.0 r.1 (clock start d) (omega arith))))

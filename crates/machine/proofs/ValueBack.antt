@@ -2,7 +2,7 @@
 use Prim.Native.Nat.{ℕ, ◌^◌, ◌<◌}
 use mathlib.Core.Path.{◌≡◌, refl, ap, sym, ◌∙◌}
 use mathlib.Core.Bool.{Bool, true, false, cond, ◌&&◌}
-use mathlib.Core.Option.{some}
+use Rattle.std.specs.Prelude.{Some}
 use lib.Dec.{eqb, leb, ltb}
 use borrow.Author.Tests.{lt-ltb, le-leb, eqb-true, eq-eqb, ltb-true}
 use Rattle.output.specs.Text.{same}
@@ -66,12 +66,12 @@ unfolding option_named
 option_named_lem n r v h = first_is (λ k. same (option_of n k) (option_of n v)) n.option_count v h (same_refl (option_of n v))
     (λ k l e. r.options_are.options_differ k v l h (same_true (option_of n k) (option_of n v) e))
 
-option_read : (n : Sensor) → SensorRules n → (v : ℕ) → v < n.option_count → read_option n (option_of n v) ≡ some v
+option_read : (n : Sensor) → SensorRules n → (v : ℕ) → v < n.option_count → read_option n (option_of n v) ≡ Some v
 unfolding read_option
 option_read n r v h = rw (option_named_lem n r v h, lt-ltb v n.option_count h)
 
 -- a value of a sensor reads back
-pub value_read : (n : Sensor) → SensorRules n → (v : ℕ) → number_fits n.kind n.option_count v ≡ true → read_value n (value_for n v) ≡ some v
+pub value_read : (n : Sensor) → SensorRules n → (v : ℕ) → number_fits n.kind n.option_count v ≡ true → read_value n (value_for n v) ≡ Some v
 unfolding read_value value_for value_text number_fits
 value_read n r v h = go (eqb n.kind 1) (eqb n.kind 2) (eqb n.kind 3) (eqb n.kind 4) h
   where
@@ -80,7 +80,7 @@ value_read n r v h = go (eqb n.kind 1) (eqb n.kind 2) (eqb n.kind 3) (eqb n.kind
         (cond b (read_float (cond a (integer v) (cond b (float v) (cond c (decimal v) (cond d (option_of n v) (time v))))))
         (cond c (read_boolean (cond a (integer v) (cond b (float v) (cond c (decimal v) (cond d (option_of n v) (time v))))))
         (cond d (read_option n (cond a (integer v) (cond b (float v) (cond c (decimal v) (cond d (option_of n v) (time v))))))
-        (read_time (cond a (integer v) (cond b (float v) (cond c (decimal v) (cond d (option_of n v) (time v))))))))) ≡ some v
+        (read_time (cond a (integer v) (cond b (float v) (cond c (decimal v) (cond d (option_of n v) (time v))))))))) ≡ Some v
     go true b c d k = integers.back v k
     go false true c d k = floats.back v k
     go false false true d k = booleans.back v k

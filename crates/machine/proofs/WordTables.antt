@@ -4,7 +4,7 @@ use native.Mathlib.Omega.{arith}
 use mathlib.Core.Path.{◌≡◌, refl, sym, ap, ◌∙◌}
 use mathlib.Core.Bool.{Bool, true, false, cond}
 use mathlib.Core.List.{List, [], ◌∷◌, map}
-use mathlib.Core.Option.{Option, none, some}
+use Rattle.std.specs.Prelude.{Option, None, Some}
 use lib.ListN.{length, get_or}
 use Rattle.output.specs.Text.{same}
 use Rattle.texts.specs.Table.{words_of, word_count, word_of, place_in, place_of}
@@ -41,8 +41,8 @@ place_first table word =
 
 -- the request at a place of rows
 abbrev pub request_at : List Row → ℕ → Option Request
-request_at [] k = none
-request_at (r ∷ rs) zero = some r.request
+request_at [] k = None
+request_at (r ∷ rs) zero = Some r.request
 request_at (r ∷ rs) (suc k) = request_at rs k
 
 row_at : (rs : List Row) (name : List ℕ) → request_in rs name ≡ request_at rs (place_in (map (λ (r : Row). r.name) rs) name)
@@ -50,7 +50,7 @@ row_at [] name = refl
 row_at (r ∷ rs) name = go (same r.name name) (row_at rs name)
   where
     go : (b : Bool) → request_in rs name ≡ request_at rs (place_in (map (λ (r : Row). r.name) rs) name)
-        → cond b (some r.request) (request_in rs name) ≡ request_at (r ∷ rs) (cond b 0 (suc (place_in (map (λ (r : Row). r.name) rs) name)))
+        → cond b (Some r.request) (request_in rs name) ≡ request_at (r ∷ rs) (cond b 0 (suc (place_in (map (λ (r : Row). r.name) rs) name)))
     go true h = refl
     go false h = h
 
@@ -60,7 +60,7 @@ unfolding request_named
 request_at_lem name = row_at requests name
 
 -- no row is behind the last
-pub request_past : (rs : List Row) (k : ℕ) → length rs ≤ k → request_at rs k ≡ none
+pub request_past : (rs : List Row) (k : ℕ) → length rs ≤ k → request_at rs k ≡ None
 request_past [] k h = refl
 request_past (r ∷ rs) zero h = absurd (omega arith)
 request_past (r ∷ rs) (suc k) h = request_past rs k (omega arith)

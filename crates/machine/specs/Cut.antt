@@ -1,6 +1,5 @@
 -- A file that is cut: what its lines tell up to one of them. How a connection ends, and what a file's bytes give back. Lists and files as in Tells.antt.
-use Rattle.std.specs.Prelude.{ℕ, ◌≤◌, ◌<◌, ◌≡◌, Bool, true, false, cond, not, ◌&&◌, List, [], ◌∷◌, ◌++◌, eqb, ltb, length, take}
-use Rattle.std.proofs.Math.Option.{Option, none, some}
+use Rattle.std.specs.Prelude.{ℕ, ◌≤◌, ◌<◌, ◌≡◌, Bool, true, false, cond, not, ◌&&◌, List, [], ◌∷◌, ◌++◌, eqb, ltb, length, take, Option, None, Some}
 use Rattle.output.specs.Text.{text}
 use Rattle.message.specs.Message.{line}
 use Rattle.line.specs.Line.{Parse, malformed, message, parse}
@@ -64,7 +63,7 @@ leaves_open sheet l (next ∷ seen) = goes_on (line_news sheet l) (line_news she
 
 -- the clock of the next line that shows one
 abbrev pub next_clock : List (List ℕ) → Option ℕ
-next_clock [] = none
+next_clock [] = None
 next_clock (l ∷ ls) = cond (shows_clock (parse (without_end l))) (line_clock l) (next_clock ls)
 
 -- a line that is a sampling reply with `ok`
@@ -91,7 +90,7 @@ pub record CutTells : Type 0 where
   pub whole : (start : Start) (a : ℕ) (h : List Call) → connected_at_end start a h ≡ true → (before : List (List ℕ)) (l : List ℕ)
       → lines_of start a h ≡ before ++ (l ∷ []) → (j : ℕ) → j < (sheet_of start).count → HoldsUpTo start a h before l j
   pub by_clock : (sheet : Sheet) (before : List (List ℕ)) (l : List ℕ) (seen : List (List ℕ)) (t : ℕ) → is_sampling_ok (parse (without_end l)) ≡ false
-      → next_clock seen ≡ some t → Each (λ k. (u : ℕ) → line_clock k ≡ some u → u < t) (before ++ (l ∷ [])) → leaves_open sheet l seen ≡ false
+      → next_clock seen ≡ Some t → Each (λ k. (u : ℕ) → line_clock k ≡ Some u → u < t) (before ++ (l ∷ [])) → leaves_open sheet l seen ≡ false
 
 -- The end of a connection.
 

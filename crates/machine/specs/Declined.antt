@@ -1,12 +1,9 @@
 -- Document 01, "Why a call or line is declined": calls, and the number of the row that declines one, 0 for none.
-use Rattle.std.specs.Prelude.{ℕ, ◌+◌, Bool, cond, not, ◌&&◌, ◌||◌, List, [], ◌∷◌, eqb, leb, ltb, length, drop}
-use Rattle.std.proofs.Math.Option.{Option}
+use Rattle.std.specs.Prelude.{ℕ, ◌+◌, Bool, cond, not, ◌&&◌, ◌||◌, List, [], ◌∷◌, eqb, leb, ltb, length, drop, None, Option}
 use Rattle.output.specs.Read.{in_time}
 use Rattle.message.specs.Message.{Message}
 use Rattle.message.specs.Delivery.{Delivery, to}
-use Rattle.line.specs.declared.Parsed.TheVariants.{Malformed}
 use Rattle.line.specs.Answer.{parsed_number}
-use Rattle.value.specs.declared.Parameter.TheVariants.{Bad}
 use Rattle.value.specs.declared.Reading.{Reading as Given}
 use Rattle.value.specs.Reading.{sample_of, is_measured}
 use Rattle.value.specs.Answer.{sampled_number, parameter_number}
@@ -15,7 +12,6 @@ use Rattle.machine.specs.declared.Sheet.{Sheet}
 use Rattle.machine.specs.declared.State.{State}
 use Rattle.machine.specs.declared.Request.{Request}
 use Rattle.machine.specs.declared.Request.TheVariants.{ClientList, Halt, Help, LogLevel, Restart, SensorList, SensorSampling, SensorValue, VersionList, Watchdog}
-use Rattle.machine.specs.declared.Found.{Found}
 use Rattle.machine.specs.Places.{any, twice}
 use Rattle.machine.specs.Sheet.{single, last_client, sensor_of, not_on_sheet, graphic, printable, name_byte, text_fits}
 use Rattle.machine.specs.State.{connected}
@@ -122,7 +118,7 @@ setting_declined sheet js k n ts =
     cond (leb 7 k) 17
     (cond (not (eqb n (2 + parameter_count k))) 15
     (cond (by_difference k && any (λ j. not (is_measured (sensor_of sheet j).kind)) js) 18
-    (cond (any is_bad (parameters_of sheet js k ts)) (parameter_number Bad)
+    (cond (any is_bad (parameters_of sheet js k ts)) (parameter_number None)
     (cond (shortest_over_longest (strategy_made sheet js k ts)) 20
     0))))
 
@@ -153,10 +149,10 @@ request_declined sheet r m = cond (not (count_fits r (length m.args))) 15 (argum
 -- "line over 2,048 or no message", 12; "reply received", 13; "request unknown", 14
 unfoldable pub line_declined : Sheet → Asked → ℕ
 line_declined sheet Nothing = 0
-line_declined sheet NotMessage = parsed_number Malformed
+line_declined sheet NotMessage = parsed_number None
 line_declined sheet Reply = 13
-line_declined sheet (Unknown m) = found_number 14 Found.Unknown
-line_declined sheet (Asks r m) = cond (hidden sheet.profile r) (found_number 14 Found.Unknown) (request_declined sheet r m)
+line_declined sheet (Unknown m) = found_number 14 None
+line_declined sheet (Asks r m) = cond (hidden sheet.profile r) (found_number 14 None) (request_declined sheet r m)
 
 -- the rows from 5 on, "Lower number first"
 unfoldable pub action_declined : Sheet → State → Action → ℕ

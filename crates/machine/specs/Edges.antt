@@ -1,8 +1,7 @@
 -- The starred cases of document 01's "Edges", together.
-use Rattle.std.specs.Prelude.{ℕ, ◌+◌, ◌-◌, ◌^◌, ◌≡◌, true, false, [], ◌∷◌, map}
+use Rattle.std.specs.Prelude.{ℕ, ◌+◌, ◌-◌, ◌^◌, ◌≡◌, true, false, [], ◌∷◌, map, Some}
 use Rattle.output.specs.Text.{text}
 use Rattle.line.specs.Edges.{LineEdges}
-use Rattle.value.specs.declared.Parameter.TheVariants.{Is}
 use Rattle.value.specs.Parameter.{float_difference_of, period_of, shortest_of}
 use Rattle.value.specs.Status.{status_text}
 use Rattle.value.specs.declared.Limits.{Limits}
@@ -57,7 +56,7 @@ pub record Edges : Type 0 where
       ≡ text "nominal" ∷ text "warn" ∷ text "error" ∷ text "error" ∷ []
   -- the parameters of the cases below, as they are stored
   pub parameters : float_difference_of (text "0.1") ∷ period_of (text "1.5") ∷ shortest_of (text "1") ∷ period_of (text "3") ∷ []
-      ≡ Is 100000 ∷ Is 1500 ∷ Is 1000 ∷ Is 3000 ∷ []
+      ≡ Some 100000 ∷ Some 1500 ∷ Some 1000 ∷ Some 3000 ∷ []
   -- "Float difference 0.1, last report 0.0, status alike: *102/1024 silent, *103/1024 reported"
   pub differences : map (λ n. due true 5000 free (float n) (since (Differential 100000))) (102 ∷ 103 ∷ []) ≡ false ∷ true ∷ []
   -- "Period 1.5 from 5.000: *6.499 silent, *6.500 reports"

@@ -6,6 +6,7 @@ pub mod Range
 pub mod Messages
 pub mod Report
 pub mod Requests
+pub mod Refusals
 pub mod Declined
 pub mod Machine
 pub mod Reader

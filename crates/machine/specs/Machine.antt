@@ -1,10 +1,8 @@
 -- Document 01, "Machine": what a call does, what it returns, and what its output holds then.
-use Rattle.std.specs.Prelude.{ℕ, zero, suc, cond, List, [], ◌∷◌, ◌++◌, leb, length}
+use Rattle.std.specs.Prelude.{ℕ, zero, suc, cond, List, [], ◌∷◌, ◌++◌, leb, length, Some, None, Option}
 use Rattle.output.specs.Output.{laid}
 use Rattle.message.specs.Delivery.{Delivery, to, deliveries}
 use Rattle.value.specs.declared.Sample.{Sample}
-use Rattle.value.specs.declared.Sampled.{Sampled}
-use Rattle.value.specs.declared.Sampled.TheVariants.{As, Unfit}
 use Rattle.value.specs.Reading.{sample_of, fresh}
 use Rattle.machine.specs.declared.Sensor.{Sensor}
 use Rattle.machine.specs.declared.Sheet.{Sheet}
@@ -21,9 +19,9 @@ use Rattle.machine.specs.Requests.{Asked, Nothing, NotMessage, Reply, Unknown, A
 use Rattle.machine.specs.Declined.{Arrival, Action, Connect, Disconnect, Tick, Reading, Log, Line, Call, declined, refusal}
 
 -- the sample that a fit reading becomes
-abbrev pub sample_in : ℕ → Sampled → Sample
-sample_in t (As x) = x
-sample_in t Unfit = fresh t
+abbrev pub sample_in : ℕ → Option Sample → Sample
+sample_in t (Some x) = x
+sample_in t None = fresh t
 
 -- the sample that a sensor's reading becomes
 unfoldable pub sample_given : Sensor → Arrival → Sample

@@ -1,12 +1,10 @@
 -- Document 01, "Sheet": how a sheet is read, and the state that opening it returns. The layout is read here; the rules that the parts keep are
 -- those of Sheet.antt, which the state check asks too.
-use Rattle.std.specs.Prelude.{ℕ, zero, suc, ◌-◌, cond, ◌||◌, List, [], ◌∷◌, ◌++◌, eqb, leb, ℤ, length, get_or, take, drop, replicate}
+use Rattle.std.specs.Prelude.{ℕ, zero, suc, ◌-◌, cond, ◌||◌, List, [], ◌∷◌, ◌++◌, eqb, leb, length, take, drop, replicate, Some, None, Option}
 use Rattle.output.specs.Text.{text, same}
-use Rattle.value.specs.declared.Fit.{Fit}
-use Rattle.value.specs.declared.Fit.TheVariants.{At, Out}
 use Rattle.value.specs.declared.Limits.{Limits}
 use Rattle.value.specs.Double.{within_signed}
-use Rattle.value.specs.Integer.{biased_integer, word, signed32}
+use Rattle.value.specs.Integer.{biased_integer, signed_in}
 use Rattle.machine.specs.declared.Choice.{Choice}
 use Rattle.machine.specs.declared.Sensor.{Sensor}
 use Rattle.machine.specs.declared.Sheet.{Sheet}
@@ -48,14 +46,10 @@ text_at most s = and_then (byte_at s) (λ n rest. cond (leb n most) (bytes_at n 
 abbrev pub padded : ℕ → List ℕ → List ℕ
 padded n t = t ++ replicate (n - length t) 0
 
--- four bytes, big-endian, as a signed number
-abbrev pub signed_in : List ℕ → ℤ
-signed_in w = signed32 (word (get_or w 0 0) (get_or w 1 0) (get_or w 2 0) (get_or w 3 0))
-
 -- a limit of type 2, which "counts 1024ths, within ±2^30"
-abbrev pub on_grid : Fit → List ℕ → Taken ℕ
-on_grid (At n) rest = taken n rest
-on_grid Out rest = broken
+abbrev pub on_grid : Option ℕ → List ℕ → Taken ℕ
+on_grid (Some n) rest = taken n rest
+on_grid None rest = broken
 
 -- a "signed 32-bit" number, as a limit of type t is stored
 unfoldable pub limit_at : ℕ → List ℕ → Taken ℕ

@@ -1,8 +1,7 @@
 -- A reader of the unit's messages: what a report or a sampling reply tells, or that no device of this sheet writes it. What it makes of a
 -- client's messages is what the unit holds for that client (Claims.antt, `Viewed`).
-use Rattle.std.specs.Prelude.{ℕ, ◌+◌, Bool, cond, not, ◌&&◌, List, [], ◌∷◌, map, eqb, leb, ltb, length, get_or, drop}
+use Rattle.std.specs.Prelude.{ℕ, ◌+◌, Bool, cond, not, ◌&&◌, List, [], ◌∷◌, map, eqb, leb, ltb, length, get_or, drop, Option, None, Some}
 use Prim.Native.Char.{code}
-use Rattle.std.proofs.Math.Option.{Option, none, some}
 use Rattle.output.specs.Text.{text, same, all}
 use Rattle.output.specs.Read.{read_time, read_integer, read_float, read_boolean, read_difference, read_whole_difference}
 use Rattle.message.specs.Message.{Message}
@@ -12,7 +11,7 @@ use Rattle.value.specs.Status.{range_status, status_text}
 use Rattle.machine.specs.declared.Sensor.{Sensor}
 use Rattle.machine.specs.declared.Sheet.{Sheet}
 use Rattle.machine.specs.declared.Strategy.{Strategy}
-use Rattle.machine.specs.declared.Strategy.TheVariants.{None}
+use Rattle.machine.specs.declared.Strategy.TheVariants.{None as NoStrategy}
 use Rattle.machine.specs.declared.Subscription.{Subscription}
 use Rattle.machine.specs.declared.State.{State}
 use Rattle.machine.specs.Places.{any, first_below, has, twice}
@@ -57,12 +56,12 @@ is_shaped m = eqb (length m.args) 5 && (eqb m.id 0 && (same (argument m 1) (text
 
 -- the parts of a message by its time, where that can be read
 abbrev pub parts_with : Message → Option ℕ → Option Parts
-parts_with m none = none
-parts_with m (some t) = some (record { time = t; name = argument m 2; status = status_named (argument m 3); value = argument m 4 })
+parts_with m None = None
+parts_with m (Some t) = Some (record { time = t; name = argument m 2; status = status_named (argument m 3); value = argument m 4 })
 
 -- the first layer: the parts of a message that has the shape of a report
 unfoldable pub parts_of : Message → Option Parts
-parts_of m = cond (is_shaped m) (parts_with m (read_time (argument m 0))) none
+parts_of m = cond (is_shaped m) (parts_with m (read_time (argument m 0))) None
 
 -- the place of an option
 unfoldable pub option_named : Sensor → List ℕ → ℕ
@@ -70,7 +69,7 @@ option_named n t = first_below (λ k. same (option_of n k) t) n.option_count
 
 -- an option of a sensor
 unfoldable pub read_option : Sensor → List ℕ → Option ℕ
-read_option n t = cond (ltb (option_named n t) n.option_count) (some (option_named n t)) none
+read_option n t = cond (ltb (option_named n t) n.option_count) (Some (option_named n t)) None
 
 -- a value of a sensor as it is written
 unfoldable pub read_value : Sensor → List ℕ → Option ℕ
@@ -83,8 +82,8 @@ read_value n t =
 
 -- a report of sensor j, by its value, where that can be read
 abbrev pub valued : ℕ → Parts → Option ℕ → News
-valued j p none = Impossible
-valued j p (some v) = Reported j (told p.time p.status v)
+valued j p None = Impossible
+valued j p (Some v) = Reported j (told p.time p.status v)
 
 -- the second layer: the sensor of that name, and its value by the sensor's type and options
 unfoldable pub report_on : Sheet → Parts → News
@@ -95,8 +94,8 @@ report_on sheet p =
 
 -- no report where the message has not the parts of one
 abbrev pub report_from : Sheet → Option Parts → News
-report_from sheet none = Impossible
-report_from sheet (some p) = report_on sheet p
+report_from sheet None = Impossible
+report_from sheet (Some p) = report_on sheet p
 
 -- both layers: a report by the sensor's name, type and options
 unfoldable pub report_read : Sheet → Message → News
@@ -134,19 +133,19 @@ parameters_read n k ts =
 
 -- a number before others, where all could be read
 abbrev pub and_number : Option ℕ → Option (List ℕ) → Option (List ℕ)
-and_number none ns = none
-and_number (some n) none = none
-and_number (some n) (some ns) = some (n ∷ ns)
+and_number None ns = None
+and_number (Some n) None = None
+and_number (Some n) (Some ns) = Some (n ∷ ns)
 
 -- all of them, where all could be read
 abbrev pub all_numbers : List (Option ℕ) → Option (List ℕ)
-all_numbers [] = some []
+all_numbers [] = Some []
 all_numbers (o ∷ os) = and_number o (all_numbers os)
 
 -- a strategy that each of the sensors can have
 abbrev pub set_with : Sheet → List ℕ → ℕ → Option (List ℕ) → News
-set_with sheet js k none = Impossible
-set_with sheet js k (some ns) = cond (all (λ j. strategy_ok (sensor_of sheet j).kind (strategy_by k ns)) js) (SetTo js (strategy_by k ns)) Impossible
+set_with sheet js k None = Impossible
+set_with sheet js k (Some ns) = cond (all (λ j. strategy_ok (sensor_of sheet j).kind (strategy_by k ns)) js) (SetTo js (strategy_by k ns)) Impossible
 
 -- a strategy of listed sensors, from the arguments behind the names
 unfoldable pub strategy_news : Sheet → List ℕ → List (List ℕ) → News
@@ -186,13 +185,13 @@ pub record View : Type 0 where
 
 -- "Every pair starts as none, without a report"
 abbrev pub no_view : View
-no_view = record { strategy = None; last = none }
+no_view = record { strategy = NoStrategy; last = None }
 
 -- after news, for sensor j
 unfoldable pub view_after : ℕ → News → View → View
 view_after j Other v = v
 view_after j Impossible v = v
-view_after j (Reported k r) v = cond (eqb k j) (record { strategy = v.strategy; last = some r }) v
+view_after j (Reported k r) v = cond (eqb k j) (record { strategy = v.strategy; last = Some r }) v
 view_after j (SetTo js st) v = cond (has j js) (record { strategy = st; last = v.last }) v
 
 -- after messages, one after another
@@ -206,7 +205,7 @@ told_of n t x = told t (status_for n x) x.number
 
 -- as the unit holds it
 abbrev pub view_of : Sensor → Subscription → View
-view_of n p = record { strategy = p.strategy; last = cond p.reported (some (told_of n p.time p.sample)) none }
+view_of n p = record { strategy = p.strategy; last = cond p.reported (Some (told_of n p.time p.sample)) None }
 
 -- of client a and sensor j
 abbrev pub standing : Sheet → State → ℕ → ℕ → View

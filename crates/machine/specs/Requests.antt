@@ -1,25 +1,21 @@
 -- Document 01, "Requests": the table of requests, what a line asks, and the names, strategies and parameters of `sensor-sampling`.
-use Rattle.std.specs.Prelude.{ℕ, ◌/◌, ◌%◌, Bool, true, false, cond, not, ◌&&◌, ◌||◌, List, [], ◌∷◌, map, eqb, ltb, length, get_or, drop}
+use Rattle.std.specs.Prelude.{ℕ, ◌/◌, ◌%◌, Bool, true, false, cond, not, ◌&&◌, ◌||◌, List, [], ◌∷◌, map, eqb, ltb, length, get_or, drop, Some, None, Option}
 use Prim.Native.Char.{code}
-use Rattle.std.proofs.Math.Option.{Option, none, some}
 use Rattle.output.specs.Text.{text, same}
 use Rattle.message.specs.Message.{Message}
 use Rattle.message.specs.Delivery.{Delivery, to}
 use Rattle.line.specs.Line.{Parse, malformed, message, parse, blank_line}
-use Rattle.value.specs.declared.Parameter.{Parameter}
-use Rattle.value.specs.declared.Parameter.TheVariants.{Is, Bad}
 use Rattle.value.specs.declared.Sample.{Sample}
 use Rattle.value.specs.Parameter.{integer_difference_of, float_difference_of, period_of, shortest_of}
 use Rattle.machine.specs.declared.Sensor.{Sensor}
 use Rattle.machine.specs.declared.Sheet.{Sheet}
 use Rattle.machine.specs.declared.Strategy.{Strategy}
-use Rattle.machine.specs.declared.Strategy.TheVariants.{None, Auto, Period, Event, Differential, EventRate, DifferentialRate}
+use Rattle.machine.specs.declared.Strategy.TheVariants.{None as NoStrategy, Auto, Period, Event, Differential, EventRate, DifferentialRate}
 use Rattle.machine.specs.declared.Client.{Client}
 use Rattle.machine.specs.declared.Subscription.{Subscription}
 use Rattle.machine.specs.declared.State.{State}
 use Rattle.machine.specs.declared.Request.{Request}
 use Rattle.machine.specs.declared.Request.TheVariants.{ClientList, Halt, Help, LogLevel, Restart, SensorList, SensorSampling, SensorValue, VersionList, Watchdog}
-use Rattle.machine.specs.declared.Found.{Found}
 use Rattle.machine.specs.Places.{tabulate, gather, one_if, any, only, first_below, has}
 use Rattle.machine.specs.Sheet.{single, sensor_of, place_of}
 use Rattle.machine.specs.State.{no_client, present, address_of, pair_at, pair_of, with_pairs, with_level, emptied, start_level}
@@ -55,8 +51,8 @@ requests =
 
 -- the request of a name among rows
 abbrev pub request_in : List Row → List ℕ → Option Request
-request_in [] name = none
-request_in (r ∷ rs) name = cond (same r.name name) (some r.request) (request_in rs name)
+request_in [] name = None
+request_in (r ∷ rs) name = cond (same r.name name) (Some r.request) (request_in rs name)
 
 -- the request of a name
 unfoldable pub request_named : List ℕ → Option Request
@@ -76,14 +72,14 @@ hidden profile VersionList = false
 hidden profile Watchdog = false
 
 -- the code's answer for a name
-abbrev pub found : ℕ → Option Request → Found
-found profile none = Found.Unknown
-found profile (some r) = cond (hidden profile r) Found.Unknown (Found.Is r)
+abbrev pub found : ℕ → Option Request → Option Request
+found profile None = None
+found profile (Some r) = cond (hidden profile r) None (Some r)
 
 -- document 01's number for it, by the row that asks: "request unknown", 14, of a line's name; "help on unknown name", 23, of an argument
-abbrev pub found_number : ℕ → Found → ℕ
-found_number number (Found.Is r) = 0
-found_number number Found.Unknown = number
+abbrev pub found_number : ℕ → Option Request → ℕ
+found_number number (Some r) = 0
+found_number number None = number
 
 -- What a line asks: nothing (a blank line, or an inform), or a request of the table, or why it asks none.
 pub data Asked : Type 0 where
@@ -93,8 +89,8 @@ pub data Asked : Type 0 where
 
 -- a request by its name
 abbrev pub asked_for : Option Request → Message → Asked
-asked_for none m = Unknown m
-asked_for (some r) m = Asks r m
+asked_for None m = Unknown m
+asked_for (Some r) m = Asks r m
 
 -- by the kind of a message
 abbrev pub asked_by : Parse → Asked
@@ -161,17 +157,17 @@ abbrev pub by_difference : ℕ → Bool
 by_difference k = eqb k 4 || eqb k 6
 
 -- a parameter that cannot be read
-abbrev pub is_bad : Parameter → Bool
-is_bad (Is n) = false
-is_bad Bad = true
+abbrev pub is_bad : Option ℕ → Bool
+is_bad (Some n) = false
+is_bad None = true
 
 -- the number of one that can
-abbrev pub number_of : Parameter → ℕ
-number_of (Is n) = n
-number_of Bad = 0
+abbrev pub number_of : Option ℕ → ℕ
+number_of (Some n) = n
+number_of None = 0
 
 -- a difference for a sensor
-unfoldable pub difference_for : Sensor → List ℕ → Parameter
+unfoldable pub difference_for : Sensor → List ℕ → Option ℕ
 difference_for n t = cond (eqb n.kind 1) (integer_difference_of t) (float_difference_of t)
 
 -- the sensor that a list names first
@@ -179,11 +175,11 @@ abbrev pub first_of : Sheet → List ℕ → Sensor
 first_of sheet js = sensor_of sheet (get_or js 0 0)
 
 -- "in a list of both types it must suit both"
-unfoldable pub difference_of : Sheet → List ℕ → List ℕ → Parameter
-difference_of sheet js t = cond (any (λ j. is_bad (difference_for (sensor_of sheet j) t)) js) Bad (difference_for (first_of sheet js) t)
+unfoldable pub difference_of : Sheet → List ℕ → List ℕ → Option ℕ
+difference_of sheet js t = cond (any (λ j. is_bad (difference_for (sensor_of sheet j) t)) js) None (difference_for (first_of sheet js) t)
 
 -- the parameters of a strategy in Table 9's order: period; difference; shortest, longest; difference, shortest, longest
-unfoldable pub parameters_of : Sheet → List ℕ → ℕ → List (List ℕ) → List Parameter
+unfoldable pub parameters_of : Sheet → List ℕ → ℕ → List (List ℕ) → List (Option ℕ)
 parameters_of sheet js k ts =
     cond (eqb k 2) (period_of (get_or ts 0 []) ∷ [])
     (cond (eqb k 4) (difference_of sheet js (get_or ts 0 []) ∷ [])
@@ -200,7 +196,7 @@ strategy_by k ns =
     (cond (eqb k 4) (Differential (get_or ns 0 0))
     (cond (eqb k 5) (EventRate (get_or ns 0 0) (get_or ns 1 0))
     (cond (eqb k 6) (DifferentialRate (get_or ns 0 0) (get_or ns 1 0) (get_or ns 2 0))
-    None)))))
+    NoStrategy)))))
 
 -- a strategy with the numbers of its parameters' texts, for the sensors at places
 unfoldable pub strategy_made : Sheet → List ℕ → ℕ → List (List ℕ) → Strategy
@@ -208,7 +204,7 @@ strategy_made sheet js k ts = strategy_by k (map number_of (parameters_of sheet 
 
 -- shortest over longest
 unfoldable pub shortest_over_longest : Strategy → Bool
-shortest_over_longest None = false
+shortest_over_longest NoStrategy = false
 shortest_over_longest Auto = false
 shortest_over_longest (Period p) = false
 shortest_over_longest Event = false

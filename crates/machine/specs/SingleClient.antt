@@ -1,6 +1,5 @@
 -- Document 02, (m), "Small units with one connection": of opening, of one call, and over whole lists of calls.
-use Rattle.std.specs.Prelude.{ℕ, ◌≤◌, ◌<◌, ◌≡◌, true, false, cond, List, [], ◌∷◌, ◌++◌, map, eqb, length}
-use Rattle.std.proofs.Math.Option.{Option, none, some}
+use Rattle.std.specs.Prelude.{ℕ, ◌≤◌, ◌<◌, ◌≡◌, true, false, cond, List, [], ◌∷◌, ◌++◌, map, eqb, length, Option, None, Some}
 use Rattle.output.specs.Text.{text}
 use Rattle.message.specs.Message.{Message, line}
 use Rattle.message.specs.Delivery.{Delivery, to}
@@ -18,12 +17,12 @@ use Rattle.machine.specs.SeveralNames.{Received, reply_alone, informed}
 
 -- the client that a call names
 abbrev pub client_named : Action → Option ℕ
-client_named (Connect c address) = some c
-client_named (Disconnect c) = some c
-client_named (Tick t) = none
-client_named (Reading j r) = none
-client_named (Log level logger said) = none
-client_named (Line c line) = some c
+client_named (Connect c address) = Some c
+client_named (Disconnect c) = Some c
+client_named (Tick t) = None
+client_named (Reading j r) = None
+client_named (Log level logger said) = None
+client_named (Line c line) = Some c
 
 -- a call on a unit of profile 1 that no row before 5 declines
 pub record OnSingle (s : State) (lent : List ℕ) : Type 0 where
@@ -84,7 +83,7 @@ pub record SingleClient : Type 0 where
   pub profile_kept : (start : Start) (h : List Call) → (after start h).sheet.profile ≡ cond (eqb (opened start).number 0) start.profile 0
   pub client_zero : (start : Start) (h : List Call) (c : ℕ) → (after start h).sheet.profile ≡ 1 → c < 8 → connected (after start h) c ≡ true → c ≡ 0
   pub served_zero : (s : State) (call : Call) → s.sheet.profile ≡ 1 → Each (λ (d : Delivery). d.client ≡ 0) (step s call).sent
-  pub above_zero : (s : State) (call : Call) (c : ℕ) → OnSingle s call.lent → client_named call.action ≡ some c → 0 < c → step s call ≡ silently s 32
+  pub above_zero : (s : State) (call : Call) (c : ℕ) → OnSingle s call.lent → client_named call.action ≡ Some c → 0 < c → step s call ≡ silently s 32
   pub joins : (s : State) (address lent : List ℕ) → OnSingle s lent → connected s 0 ≡ false → address_fits address ≡ true
       → step s (call_of (Connect 0 address) lent) ≡ connected_as s address []
   pub displaces : (s : State) (address lent : List ℕ) → OnSingle s lent → connected s 0 ≡ true → address_fits address ≡ true

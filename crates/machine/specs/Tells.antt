@@ -1,9 +1,8 @@
 -- What the file of one archive tells of the sensors: at the end, at every moment before it, and where the file is cut. `a` is the archive's client
 -- number, `start` what the unit was opened with, `h` a list of calls with its latest first, as in TwoDevices.antt; a file is the archive's lines (`lines_of`). The readings that it
 -- tells of are those that superseded the one stored before them (document 02, (g)): one that came late and was passed over is in no file and in no bound.
-use Rattle.std.specs.Prelude.{ℕ, ◌+◌, ◌-◌, ◌*◌, ◌≤◌, ◌<◌, ◌≡◌, Bool, true, false, cond, ◌&&◌, ◌||◌, List, [], ◌∷◌, ◌++◌, map, eqb, ltb}
+use Rattle.std.specs.Prelude.{ℕ, ◌+◌, ◌-◌, ◌*◌, ◌≤◌, ◌<◌, ◌≡◌, Bool, true, false, cond, ◌&&◌, ◌||◌, List, [], ◌∷◌, ◌++◌, map, eqb, ltb, Option, None, Some}
 use Prim.Native.Char.{code}
-use Rattle.std.proofs.Math.Option.{Option, none, some}
 use Rattle.output.specs.Text.{text}
 use Rattle.output.specs.Read.{read_time}
 use Rattle.message.specs.Message.{line}
@@ -12,7 +11,7 @@ use Rattle.value.specs.declared.Sample.{Sample}
 use Rattle.machine.specs.declared.Sensor.{Sensor}
 use Rattle.machine.specs.declared.Sheet.{Sheet}
 use Rattle.machine.specs.declared.Strategy.{Strategy}
-use Rattle.machine.specs.declared.Strategy.TheVariants.{None, Auto, Period, Event, Differential, EventRate, DifferentialRate}
+use Rattle.machine.specs.declared.Strategy.TheVariants.{None as NoStrategy, Auto, Period, Event, Differential, EventRate, DifferentialRate}
 use Rattle.machine.specs.Places.{has, Each}
 use Rattle.machine.specs.Sheet.{sensor_of}
 use Rattle.machine.specs.Opening.{Start}
@@ -58,7 +57,7 @@ Near n d x r = (status_for n x ≡ r.status) × (is_valid x ≡ true → apart x
 
 -- auto and event: the same; differential: near it; the rate kinds likewise, once the shortest period has passed; period and none: nothing
 abbrev pub Known : Sensor → ℕ → Sample → Strategy → Told → Type 0
-Known n now x None r = Unit
+Known n now x NoStrategy r = Unit
 Known n now x Auto r = Same n x r
 Known n now x (Period p) r = Unit
 Known n now x Event r = Same n x r
@@ -69,8 +68,8 @@ Known n now x (DifferentialRate d shortest longest) r = shortest ≤ now - r.tim
 -- what a reader's view of a sensor tells, where its present reading is x and the unit's clock `clock`: a sensor that has a strategy has a report, and this
 -- tells the reading, to a reader who goes by the unit's clock or by any earlier one, as by those that lines show
 pub record ViewTells (n : Sensor) (v : View) (clock : ℕ) (x : Sample) : Type 0 where
-  pub was_reported : is_none v.strategy ≡ false → (r : Told) × (v.last ≡ some r)
-  pub tells : (r : Told) → v.last ≡ some r → (now : ℕ) → now ≤ clock → Known n now x v.strategy r
+  pub was_reported : is_none v.strategy ≡ false → (r : Told) × (v.last ≡ Some r)
+  pub tells : (r : Told) → v.last ≡ Some r → (now : ℕ) → now ≤ clock → Known n now x v.strategy r
 
 -- what lines tell of sensor j
 abbrev pub FileTells : Sheet → ℕ → List (List ℕ) → ℕ → Sample → Type 0
@@ -146,13 +145,13 @@ highest (n ∷ ns) = cond (ltb (highest ns) n) n (highest ns)
 -- how far a valid reading can lie from the report that stands, on the scale of `width`: not at all under auto and event, at most the difference under
 -- differential; under the others any distance goes unseen, for a time or for good
 abbrev pub reach : Sensor → Strategy → Option ℕ
-reach n None = none
-reach n Auto = some 0
-reach n (Period p) = none
-reach n Event = some 0
-reach n (Differential d) = some (width n d)
-reach n (EventRate shortest longest) = none
-reach n (DifferentialRate d shortest longest) = none
+reach n NoStrategy = None
+reach n Auto = Some 0
+reach n (Period p) = None
+reach n Event = Some 0
+reach n (Differential d) = Some (width n d)
+reach n (EventRate shortest longest) = None
+reach n (DifferentialRate d shortest longest) = None
 
 -- sensor j has had the strategy st from the moment h on
 pub record Under (start : Start) (a j : ℕ) (st : Strategy) (later h : List Call) : Type 0 where
@@ -171,10 +170,10 @@ KeepsStrategy j st (SetTo js new) = has j js ≡ true → new ≡ st
 -- `peak`: so the highest of these readings is at most the highest valid report and the reach.
 -- `as_shown`: the file shows the assumption: its lines up to h set this strategy, and those behind name the sensor with no other.
 pub record PeakBounded : Type 0 where
-  pub within : (start : Start) (a j w : ℕ) (st : Strategy) (later h : List Call) → Under start a j st later h → reach (sensor_of (sheet_of start) j) st ≡ some w
+  pub within : (start : Start) (a j w : ℕ) (st : Strategy) (later h : List Call) → Under start a j st later h → reach (sensor_of (sheet_of start) j) st ≡ Some w
       → Each (λ x. is_valid x ≡ true → (v : ℕ) × ((has v (valid_reports (sheet_of start) j (lines_of start a (later ++ h))) ≡ true)
       × (apart x.number v * 1000000 ≤ w))) (map (reading_at start j) (moments later h))
-  pub peak : (start : Start) (a j w : ℕ) (st : Strategy) (later h : List Call) → Under start a j st later h → reach (sensor_of (sheet_of start) j) st ≡ some w
+  pub peak : (start : Start) (a j w : ℕ) (st : Strategy) (later h : List Call) → Under start a j st later h → reach (sensor_of (sheet_of start) j) st ≡ Some w
       → highest (valid_numbers (map (reading_at start j) (moments later h))) * 1000000
       ≤ highest (valid_reports (sheet_of start) j (lines_of start a (later ++ h))) * 1000000 + w
   pub as_shown : (start : Start) (a j : ℕ) (st : Strategy) (later h : List Call) (behind : List (List ℕ)) → Earlier start a later h → j < (sheet_of start).count
@@ -219,11 +218,11 @@ shows_clock (message m) = is_named (code "#") (text "sensor-status") m || is_nam
 
 -- the clock that it shows
 abbrev pub clock_in : Parse → Option ℕ
-clock_in malformed = none
+clock_in malformed = None
 clock_in (message m) =
     cond (is_named (code "#") (text "sensor-status") m) (read_time (argument m 0))
     (cond (is_named (code "#") (text "log") m) (read_time (argument m 1))
-    none)
+    None)
 
 -- of a line as it stands in a file
 abbrev pub line_clock : List ℕ → Option ℕ
@@ -235,6 +234,6 @@ line_clock l = clock_in (parse (without_end l))
 pub record ClockShown : Type 0 where
   pub never_back : (start : Start) (later h : List Call) → clock_of start h ≤ clock_of start (later ++ h)
   pub shown : (start : Start) (a : ℕ) (h : List Call) (call : Call)
-      → Each (λ l. shows_clock (parse (without_end l)) ≡ true → line_clock l ≡ some (clock_of start (call ∷ h))) (lines_to a (packets_of start h call))
+      → Each (λ l. shows_clock (parse (without_end l)) ≡ true → line_clock l ≡ Some (clock_of start (call ∷ h))) (lines_to a (packets_of start h call))
   pub at_least : (start : Start) (a : ℕ) (h : List Call)
-      → Each (λ l. shows_clock (parse (without_end l)) ≡ true → (t : ℕ) × ((line_clock l ≡ some t) × (t ≤ clock_of start h))) (lines_of start a h)
+      → Each (λ l. shows_clock (parse (without_end l)) ≡ true → (t : ℕ) × ((line_clock l ≡ Some t) × (t ≤ clock_of start h))) (lines_of start a h)

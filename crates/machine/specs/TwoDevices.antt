@@ -1,9 +1,8 @@
 -- Document 01, "Two devices": what is read off a list of calls, and demand 3. A list is kept with its latest call first (`h`); `start` is what the
 -- device was opened with, sheet and profile: document 02, (m), "The facts of machine and archive are proved over the profile as a parameter, equal
 -- archives .. being compared within one profile".
-use Rattle.std.specs.Prelude.{ℕ, ◌-◌, ◌*◌, ◌≤◌, ◌<◌, ◌≡◌, Bool, true, false, cond, ◌&&◌, ◌||◌, List, [], ◌∷◌, ◌++◌, reverse, eqb, leb, length, take}
+use Rattle.std.specs.Prelude.{ℕ, ◌-◌, ◌*◌, ◌≤◌, ◌<◌, ◌≡◌, Bool, true, false, cond, ◌&&◌, ◌||◌, List, [], ◌∷◌, ◌++◌, reverse, eqb, leb, length, take, Option, None, Some}
 use Prim.Native.Char.{code}
-use Rattle.std.proofs.Math.Option.{Option, none, some}
 use Rattle.output.specs.Text.{text, same}
 use Rattle.message.specs.Message.{Message}
 use Rattle.message.specs.Delivery.{Delivery, Packet, cut}
@@ -13,7 +12,7 @@ use Rattle.value.specs.Reading.{fresh}
 use Rattle.machine.specs.declared.Sensor.{Sensor}
 use Rattle.machine.specs.declared.Sheet.{Sheet}
 use Rattle.machine.specs.declared.Strategy.{Strategy}
-use Rattle.machine.specs.declared.Strategy.TheVariants.{None, Auto, Period, Event, Differential, EventRate, DifferentialRate}
+use Rattle.machine.specs.declared.Strategy.TheVariants.{None as NoStrategy, Auto, Period, Event, Differential, EventRate, DifferentialRate}
 use Rattle.machine.specs.declared.State.{State}
 use Rattle.machine.specs.declared.Answer.{Answer}
 use Rattle.machine.specs.Places.{any, has, from_first, joined, is_zero}
@@ -177,61 +176,61 @@ strategy_after sheet a j (Line c line) ps before =
 
 -- "those of the archive's last `sensor-sampling` since then that named it with a strategy and was answered `ok`, else none"
 unfoldable pub strategy_of : Start → ℕ → ℕ → List Call → Strategy
-strategy_of start a j [] = None
+strategy_of start a j [] = NoStrategy
 strategy_of start a j (call ∷ h) =
-    cond (connects start a h call) None (strategy_after (sheet_of start) a j call.action (packets_of start h call) (strategy_of start a j h))
+    cond (connects start a h call) NoStrategy (strategy_after (sheet_of start) a j call.action (packets_of start h call) (strategy_of start a j h))
 
 -- a report of sensor j
 abbrev pub report_in : ℕ → News → Option Told
-report_in j Other = none
-report_in j Impossible = none
-report_in j (Reported k r) = cond (eqb k j) (some r) none
-report_in j (SetTo js st) = none
+report_in j Other = None
+report_in j Impossible = None
+report_in j (Reported k r) = cond (eqb k j) (Some r) None
+report_in j (SetTo js st) = None
 
 -- of a `#sensor-status`
 abbrev pub report_by : Sheet → ℕ → Parse → Option Told
-report_by sheet j malformed = none
-report_by sheet j (message m) = cond (is_named (code "#") (text "sensor-status") m) (report_in j (report_read sheet m)) none
+report_by sheet j malformed = None
+report_by sheet j (message m) = cond (is_named (code "#") (text "sensor-status") m) (report_in j (report_read sheet m)) None
 
 -- the later of two, where there is one
 abbrev pub later : Option Told → Option Told → Option Told
-later none r = r
-later (some r) earlier = some r
+later None r = r
+later (Some r) earlier = Some r
 
 -- "the last `#sensor-status` for it among those lines"
 unfoldable pub last_report : Sheet → ℕ → List (List ℕ) → Option Told
-last_report sheet j [] = none
+last_report sheet j [] = None
 last_report sheet j (l ∷ ls) = later (last_report sheet j ls) (report_by sheet j (parse (without_end l)))
 
 -- whether a reading of time t supersedes the present one: document 02, (g), "if its time is equal or later, or if the stored status is unknown", as it is
 -- before the first reading; no reading gives it
 abbrev pub superseding : ℕ → Option Arrival → Bool
-superseding t none = true
-superseding t (some r) = leb r.time t
+superseding t None = true
+superseding t (Some r) = leb r.time t
 
 -- "the last given by a reading call for it that returned 0", and document 02, (g), "the last that superseded the one stored before it"
 abbrev pub reading_by : ℕ → Action → Option Arrival → Option Arrival
 reading_by j (Connect c address) before = before
 reading_by j (Disconnect c) before = before
 reading_by j (Tick t) before = before
-reading_by j (Reading k r) before = cond (eqb k j && superseding r.time before) (some r) before
+reading_by j (Reading k r) before = cond (eqb k j && superseding r.time before) (Some r) before
 reading_by j (Log level logger said) before = before
 reading_by j (Line c line) before = before
 
 -- over the list
 unfoldable pub last_reading : Start → ℕ → List Call → Option Arrival
-last_reading start j [] = none
+last_reading start j [] = None
 last_reading start j (call ∷ h) = cond (returned_zero start h call) (reading_by j call.action (last_reading start j h)) (last_reading start j h)
 
 -- "with the status and value of the section Values, else the fresh one"
 abbrev pub sample_from : Sensor → Option Arrival → Sample
-sample_from n none = fresh n.kind
-sample_from n (some r) = sample_given n r
+sample_from n None = fresh n.kind
+sample_from n (Some r) = sample_given n r
 
 -- document 02, (g), "its own time", else that of the fresh one
 abbrev pub time_from : Option Arrival → ℕ
-time_from none = 0
-time_from (some r) = r.time
+time_from None = 0
+time_from (Some r) = r.time
 
 -- the clock that a call sets
 abbrev pub clock_by : Action → ℕ → ℕ
@@ -298,8 +297,8 @@ module _ (start : Start) (d : Device) where
 -- "The shortest period has passed when the device's clock less the last report's is at least that period"; not without a report, and
 -- `was_reported` says that there is one
 abbrev pub Passed : ℕ → ℕ → Option Told → Type 0
-Passed period now none = ⊥
-Passed period now (some r) = period ≤ now - r.time
+Passed period now None = ⊥
+Passed period now (Some r) = period ≤ now - r.time
 
 -- the same status and value
 abbrev pub Equal : Sensor → Sample → Sample → Type 0
@@ -311,7 +310,7 @@ Within n d x y = (status_for n x ≡ status_for n y) × (is_valid x ≡ true →
 
 -- two present readings, by strategy; `passed s` says that the period s has passed in both devices
 abbrev pub Alike : Sensor → Strategy → (ℕ → Type 0) → Sample → Sample → Type 0
-Alike n None passed x y = Unit
+Alike n NoStrategy passed x y = Unit
 Alike n Auto passed x y = Equal n x y
 Alike n (Period p) passed x y = Unit
 Alike n Event passed x y = Equal n x y
@@ -323,7 +322,7 @@ Alike n (DifferentialRate d shortest longest) passed x y = passed shortest → W
 pub record Shared (start : Start) (d e : Device) (j : ℕ) : Type 0 where
   pub same_strategy : strategy start d j ≡ strategy start e j
   pub same_report : report start d j ≡ report start e j
-  pub was_reported : is_none (strategy start d j) ≡ false → (r : Told) × (report start d j ≡ some r)
+  pub was_reported : is_none (strategy start d j) ≡ false → (r : Told) × (report start d j ≡ Some r)
   pub alike : Alike (sensor_of (sheet_of start) j) (strategy start d j)
       (λ s. Passed s (clock start d) (report start d j) × Passed s (clock start e) (report start e j)) (reading start d j) (reading start e j)
 

@@ -5,6 +5,7 @@ ghost use Rattle.std.specs.Prelude.{◌≡◌};
 ghost use Rattle.machine.specs.Sheet.{single, last_client};
 ghost use Rattle.machine.specs.State.{start_level, no_subscription, blank_client};
 ghost use Rattle.machine.specs.Range.{is_none};
+ghost use Rattle.machine.specs.Refusals.{refusal_number};
 
 use value::{Limits, Sample};
 
@@ -46,6 +47,7 @@ pub const LONGEST_TITLE: u8 = TITLE as u8;
 pub const LONGEST_ADDRESS: u8 = ADDRESS as u8;
 
 // An option of a discrete sensor: the first `len` bytes of `text`.
+// kept: here and below, a length beside its array is the layout of the State that callers lend, and the check of its range speaks of both.
 #[derive(Clone, Copy)]
 pub struct Choice {
     pub text: [u8; OPTION],
@@ -158,13 +160,6 @@ pub enum Request {
     Watchdog,
 }
 
-// The request of a name, or that there is none of it.
-#[derive(Clone, Copy)]
-pub enum Found {
-    Is(Request),
-    Unknown,
-}
-
 // Why subscriptions are visited: a tick, or a reading of a sensor.
 #[derive(Clone, Copy)]
 pub enum Cause {
@@ -220,13 +215,72 @@ pub fn blank_client() -> Client
 pub fn is_none(strategy: Strategy) -> bool
     ensures { result ≡ is_none strategy }
 {
-    match strategy {
-        Strategy::None => true,
-        Strategy::Auto => false,
-        Strategy::Period(_) => false,
-        Strategy::Event => false,
-        Strategy::Differential(_) => false,
-        Strategy::EventRate(_, _) => false,
-        Strategy::DifferentialRate(_, _, _) => false,
+    matches!(strategy, Strategy::None)
+}
+
+// Why a call or a line is declined: the rows of document 01's table, and those that came with the change requests.
+#[derive(Clone, Copy, Debug, PartialEq, Eq)]
+pub enum Refusal {
+    StateOutOfRange,
+    OutputTooShort,
+    DeviceHalted,
+    NotASheet,
+    NoSuchClient,
+    WrongConnection,
+    AddressText,
+    TickTime,
+    NoSuchSensor,
+    ReadingUnfit,
+    LogEntry,
+    NotAMessage,
+    UnexpectedReply,
+    UnknownRequest,
+    ArgumentCount,
+    UnknownSensor,
+    UnknownStrategy,
+    StrategyNotForType,
+    BadParameter,
+    ShortestOverLongest,
+    SensorTwice,
+    UnknownLevel,
+    HelpUnknown,
+    ReadingAhead,
+    NoSuchProfile,
+    OneClientOnly,
+}
+
+impl Refusal {
+    // The number of its row.
+    pub fn number(self) -> u8
+        ensures { result ≡ refusal_number self }
+    {
+        match self {
+            Refusal::StateOutOfRange => 1,
+            Refusal::OutputTooShort => 2,
+            Refusal::DeviceHalted => 3,
+            Refusal::NotASheet => 4,
+            Refusal::NoSuchClient => 5,
+            Refusal::WrongConnection => 6,
+            Refusal::AddressText => 7,
+            Refusal::TickTime => 8,
+            Refusal::NoSuchSensor => 9,
+            Refusal::ReadingUnfit => 10,
+            Refusal::LogEntry => 11,
+            Refusal::NotAMessage => 12,
+            Refusal::UnexpectedReply => 13,
+            Refusal::UnknownRequest => 14,
+            Refusal::ArgumentCount => 15,
+            Refusal::UnknownSensor => 16,
+            Refusal::UnknownStrategy => 17,
+            Refusal::StrategyNotForType => 18,
+            Refusal::BadParameter => 19,
+            Refusal::ShortestOverLongest => 20,
+            Refusal::SensorTwice => 21,
+            Refusal::UnknownLevel => 22,
+            Refusal::HelpUnknown => 23,
+            Refusal::ReadingAhead => 26,
+            Refusal::NoSuchProfile => 31,
+            Refusal::OneClientOnly => 32,
+        }
     }
 }

@@ -37,10 +37,8 @@ fn put_escaped(out: &mut [u8], at: usize, s: &[u8]) -> usize
     ensures { Wrote (output out.old at) (escape s.now) (output out.new result) }
 {
     let mut p = at;
-    let mut i = 0;
-    while i < s.len() {
-        p = put_escape(out, p, s[i]);
-        i += 1;
+    for b in s {
+        p = put_escape(out, p, *b);
     }
     if s.len() == 0 {
         return put_pair(out, p, b'@'); // empty

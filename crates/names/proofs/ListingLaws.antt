@@ -1,12 +1,15 @@
--- Lists of places: the places behind a number, and one place more.
-use Prim.Native.Nat.{ℕ, zero, suc, ◌+◌, ◌-◌, ◌≤◌, ◌<◌}
+-- Lists of places, and one place more.
+use Prim.Native.Nat.{ℕ, suc, ◌+◌, ◌-◌, ◌≤◌, ◌<◌}
 use native.Mathlib.Omega.{arith}
 use mathlib.Core.Path.{◌≡◌, refl, ap, sym, ◌∙◌, subst}
 use mathlib.Core.Bool.{Bool, true, false, cond, ◌||◌}
 use mathlib.Core.List.{List, [], ◌∷◌, ◌++◌, append_assoc}
 use lib.ListN.{length, drop, set, replicate, length-append}
 use lib.Seq.{take-append_seam, set-append_seam}
-use Rattle.machine.specs.Places.{has, twice, Each, is_zero}
+use Rattle.std.specs.Prelude.{Result, Ok, Err, IfOk, MatchResult}
+use Rattle.machine.specs.declared.Refusal.{Refusal}
+use Rattle.machine.specs.declared.Refusal.TheVariants.{SensorTwice}
+use Rattle.machine.specs.Places.{has, twice, Each}
 use Rattle.machine.proofs.TestLaws.{cond_cases}
 use Rattle.machine.proofs.PlacesLaws.{each_append}
 use Rattle.machine.proofs.AnyLaws.{twice_and}
@@ -16,25 +19,25 @@ use Rattle.names.specs.Scan.{listing, places_of, Places, distinctly, with_place}
 use Rattle.machine.proofs.StoreLaws.{drop-replicate}
 
 -- places in an array of zeros
-pub listing_of : (number count : ℕ) (js : List ℕ) → count ≡ length js → record { number = number; count = count; places = js ++ drop count (replicate 32 0) } ≡ listing number js
+pub listing_of : (count : ℕ) (js : List ℕ) → count ≡ length js → record { count = count; places = js ++ drop count (replicate 32 0) } ≡ listing js
 unfolding listing
-listing_of number count js e = rw (e, drop-replicate (length js) 32 0)
+listing_of count js e = rw (e, drop-replicate (length js) 32 0)
 
-pub listing_places : (number : ℕ) (js : List ℕ) → places_of (listing number js) ≡ js
+pub listing_places : (js : List ℕ) → places_of (listing js) ≡ js
 unfolding listing
-listing_places number js = take-append_seam js (replicate (32 - length js) 0)
+listing_places js = take-append_seam js (replicate (32 - length js) 0)
 
-places_listing : (number : ℕ) (js : List ℕ) → Each (λ j. j < 32) js → twice js ≡ false → Places (listing number js)
+places_listing : (js : List ℕ) → Each (λ j. j < 32) js → twice js ≡ false → Places (listing js)
 unfolding listing
-places_listing number js h t = record {
-  is = ap (listing number) (sym (listing_places number js));
-  held = subst (Each (λ j. j < 32)) (sym (listing_places number js)) h;
-  once = ap twice (listing_places number js) ∙ t;
+places_listing js h t = record {
+  is = ap listing (sym (listing_places js));
+  held = subst (Each (λ j. j < 32)) (sym (listing_places js)) h;
+  once = ap twice (listing_places js) ∙ t;
 }
 
-pub places_none : (number : ℕ) → Places (listing number [])
+pub places_none : Places (listing [])
 unfolding twice
-places_none number = places_listing number [] tt refl
+places_none = places_listing [] tt refl
 
 -- a place stored behind the others
 set_more : (js : List ℕ) (j : ℕ) → length js < 32 → set (js ++ replicate (32 - length js) 0) (length js) j ≡ (js ++ (j ∷ [])) ++ replicate (32 - length (js ++ (j ∷ []))) 0
@@ -44,7 +47,7 @@ set_more js j h =
     rw (e, f) (set-append_seam js 0 (replicate (31 - length js) 0) j ∙ sym (append_assoc js (j ∷ []) (replicate (31 - length js) 0)))
 
 listing_more : (js : List ℕ) (j count : ℕ) (places : List ℕ) → length js < 32 → count ≡ length js → places ≡ js ++ replicate (32 - length js) 0
-    → record { number = 0; count = count + 1; places = set places count j } ≡ listing 0 (js ++ (j ∷ []))
+    → record { count = count + 1; places = set places count j } ≡ listing (js ++ (j ∷ []))
 unfolding listing
 listing_more js j count places h e q = rw (e, q, set_more js j h, length-append js (j ∷ []))
 
@@ -69,38 +72,39 @@ module _ {list : Listed} (p : Places list) where
     places_room e = let q = more e in
         omega (arith, places_count, length-append (places_of list) (j ∷ []), few_distinct 32 (places_of list ++ (j ∷ [])) q.0 q.1)
 
-    pub places_with : Places (with_place list j)
+    pub places_with : IfOk (with_place list j) Places
     unfolding with_place
-    places_with =
-        cond_cases Places (is_zero list.number) (cond (has j (places_of list)) (listing 21 []) (listing 0 (places_of list ++ (j ∷ [])))) list
-        (λ z. cond_cases Places (has j (places_of list)) (listing 21 []) (listing 0 (places_of list ++ (j ∷ []))) (λ t. places_none 21) (λ e. let q = more e in places_listing 0 (places_of list ++ (j ∷ [])) q.0 q.1))
-        (λ z. p)
+    places_with = cond_cases (λ r. IfOk r Places) (has j (places_of list)) (Err SensorTwice) (Ok (listing (places_of list ++ (j ∷ []))))
+        (λ t. tt) (λ e. let q = more e in places_listing (places_of list ++ (j ∷ [])) q.0 q.1)
 
     -- the place stored
-    pub placed : list.number ≡ 0 → has j (places_of list) ≡ false
-        → record { number = 0; count = list.count + 1; places = set list.places list.count j } ≡ with_place list j
+    pub placed : has j (places_of list) ≡ false → Ok (record { count = list.count + 1; places = set list.places list.count j }) ≡ with_place list j
     unfolding with_place
-    placed z e = rw (z, e) (listing_more (places_of list) j list.count list.places (rw (← places_count) (places_room e)) places_count places_are)
+    placed e = rw e (ap Ok (listing_more (places_of list) j list.count list.places (rw (← places_count) (places_room e)) places_count places_are))
 
--- a list that has the place, or that is declined
-module _ (list : Listed) (j : ℕ) where
-  pub with_twice : list.number ≡ 0 → has j (places_of list) ≡ true → listing 21 [] ≡ with_place list j
-  unfolding with_place
-  with_twice z e = rw (z, e)
+-- a list that has the place
+pub with_twice : (list : Listed) (j : ℕ) → has j (places_of list) ≡ true → Err SensorTwice ≡ with_place list j
+unfolding with_place
+with_twice list j e = rw e
 
-  pub with_declined : (list.number ≡ 0 → ⊥) → list ≡ with_place list j
-  unfolding with_place
-  with_declined h = go list.number h
-    where
-      go : (n : ℕ) → (n ≡ 0 → ⊥) → list ≡ cond (is_zero n) (cond (has j (places_of list)) (listing 21 []) (listing 0 (places_of list ++ (j ∷ [])))) list
-      go zero k = absurd (k refl)
-      go (suc n) k = refl
+-- a list gone on with one place more, if it is one
+abbrev pub gone_on : Result Listed Refusal → ℕ → Result Listed Refusal
+gone_on (Ok list) j = with_place list j
+gone_on (Err r) j = Err r
+
+pub gone_on_is : (list next : Result Listed Refusal) (j : ℕ) → MatchResult list (λ l. next ≡ with_place l j) (λ r. next ≡ Err r) → next ≡ gone_on list j
+gone_on_is (Ok l) next j e = e
+gone_on_is (Err r) next j e = e
+
+pub places_on : (list : Result Listed Refusal) {j : ℕ} → IfOk list Places → j < 32 → IfOk (gone_on list j) Places
+places_on (Ok l) p h = places_with p h
+places_on (Err r) p h = tt
 
 -- one place more than places that are listed
-pub with_distinctly : (js : List ℕ) (j : ℕ) → with_place (distinctly js) j ≡ distinctly (js ++ (j ∷ []))
-unfolding with_place distinctly listing
+pub with_distinctly : (js : List ℕ) (j : ℕ) → gone_on (distinctly js) j ≡ distinctly (js ++ (j ∷ []))
+unfolding with_place distinctly
 with_distinctly js j = rw (twice_and js j) (go (twice js))
   where
-    go : (t : Bool) → with_place (cond t (listing 21 []) (listing 0 js)) j ≡ cond (t || has j js) (listing 21 []) (listing 0 (js ++ (j ∷ [])))
+    go : (t : Bool) → gone_on (cond t (Err SensorTwice) (Ok (listing js))) j ≡ cond (t || has j js) (Err SensorTwice) (Ok (listing (js ++ (j ∷ []))))
     go true = refl
-    go false = rw (listing_places 0 js)
+    go false = rw (listing_places js)

@@ -1,127 +1,135 @@
 -- The scan of a comma list: what is listed, gone on with the places that the rest names, is the list of all.
-use Prim.Native.Nat.{ℕ, suc, ◌+◌, ◌-◌, ◌≤◌, ◌<◌}
+use Prim.Native.Nat.{ℕ, zero, suc, ◌+◌, ◌≤◌, ◌<◌}
 use native.Mathlib.Omega.{arith}
-use mathlib.Core.Path.{◌≡◌, refl, ap, sym, ◌∙◌}
-use mathlib.Core.Bool.{Bool, true, false, cond, ◌||◌}
+use native.Mathlib.Numerals.{add-one}
+use mathlib.Core.Path.{◌≡◌, refl, ap, sym, subst, ◌∙◌}
+use mathlib.Core.Bool.{Bool, true, false, cond, not, ◌||◌}
 use mathlib.Core.List.{List, [], ◌∷◌, ◌++◌, map, append_assoc, append-nil}
-use lib.Dec.{leb, ltb}
-use lib.ListN.{length, take, drop, length-drop}
-use lib.Seq.{drop-drop}
+use lib.Dec.{eqb, ltb}
+use lib.ListN.{length, take, drop, get_or}
+use Rattle.std.proofs.Common.{length-take}
 use borrow.Author.Tests.{ltb-true, ltb-false, le-leb, lt-leb}
-use Rattle.output.specs.Text.{run, same}
-use Rattle.output.proofs.RunLaws.{run_le, run_take}
-use Rattle.texts.proofs.At.{to_end}
+use Rattle.std.specs.Prelude.{Option, Some, None, Result, Ok, Err, IfOk, position}
+use Rattle.std.specs.List.{position_or_len, slice_split}
+use Rattle.std.proofs.lemmas.List.{get_or-take, drop_more, drop_all}
+use Rattle.std.proofs.lemmas.List.Sums.{fails_before_first, prefix_len_stops, prefix_len-le-length}
+use Rattle.std.proofs.lemmas.Option.{cond_some}
+use Rattle.output.specs.Text.{same}
+use Rattle.machine.specs.declared.Sensor.{Sensor}
 use Rattle.machine.specs.declared.Sheet.{Sheet}
+use Rattle.machine.specs.declared.Refusal.{Refusal}
+use Rattle.machine.specs.declared.Refusal.TheVariants.{UnknownSensor}
 use Rattle.machine.specs.Places.{any, first_below, twice}
-use Rattle.machine.specs.Sheet.{sensor_of, name_of}
+use Rattle.machine.specs.Sheet.{no_sensor, sensor_of, name_of}
+use Rattle.machine.specs.Requests.{split}
 use Rattle.machine.proofs.FirstLaws.{first_on, first_at}
-use Rattle.machine.proofs.PlacesLaws.{first_most}
 use Rattle.names.specs.declared.Listed.{Listed}
-use Rattle.names.specs.Scan.{held, place_in, is_past, listing, Places, distinctly, with_place, scanned, in_name, places_named}
-use Rattle.names.proofs.ListingLaws.{places_none, places_with, with_distinctly}
-use Rattle.names.proofs.SplitLaws.{split_last, split_more}
+use Rattle.names.specs.Scan.{held, place_in, is_past, listing, Places, distinctly, scanned, places_named}
+use Rattle.names.proofs.ListingLaws.{gone_on, places_none, places_on, with_distinctly}
+use Rattle.names.proofs.SplitLaws.{split_parts}
 
 -- The search of a name.
 
--- the sensor at a place has the name
-abbrev named : Sheet → List ℕ → ℕ → Bool
-named sheet name j = same (name_of (sensor_of sheet j)) name
-
--- no place before j has it
-pub record Searching (sheet : Sheet) (name : List ℕ) (j : ℕ) : Type 0 where
-  pub within : j ≤ held sheet
-  pub passed : first_below (named sheet name) j ≡ j
-
-pub searching : (sheet : Sheet) (name : List ℕ) → Searching sheet name 0
+-- no place below n passes the test
+first_passed : (f : ℕ → Bool) (n : ℕ) → ((k : ℕ) → k < n → f k ≡ false) → first_below f n ≡ n
 unfolding first_below
-searching sheet name = record { within = omega arith; passed = refl }
+first_passed f zero h = refl
+first_passed f (suc n) h = rw add-one at (first_on f n (first_passed f n (λ k l. h k (omega arith))) (h n (omega arith)))
 
-module _ {sheet : Sheet} {name : List ℕ} {j : ℕ} (f : Searching sheet name j) where
-  pub searching_on : named sheet name j ≡ false → j < held sheet → Searching sheet name (j + 1)
-  searching_on h k = record { within = omega arith; passed = first_on (named sheet name) j f.passed h }
+first_same : (f g : ℕ → Bool) (n : ℕ) → ((k : ℕ) → k < n → f k ≡ g k) → first_below f n ≡ first_below g n
+unfolding first_below
+first_same f g zero h = refl
+first_same f g (suc n) h = rw (first_same f g n (λ k l. h k (omega arith)), h n (omega arith))
+
+not_false : (b : Bool) → not b ≡ false → b ≡ true
+not_false true e = refl
+not_false false e = sym e
+
+-- the first that passes, by the library's word and by place
+position_first : {A : Type 0} (p : A → Bool) (xs : List A) (d : A) → position_or_len p xs ≡ first_below (λ j. p (get_or xs j d)) (length xs)
+position_first {A} p xs d = go (ltb (position_or_len p xs) (length xs)) refl
+  where
+    passed : first_below (λ j. p (get_or xs j d)) (position_or_len p xs) ≡ position_or_len p xs
+    passed = first_passed (λ j. p (get_or xs j d)) (position_or_len p xs) (λ k h. fails_before_first p xs k d h)
+
+    go : (b : Bool) → ltb (position_or_len p xs) (length xs) ≡ b → position_or_len p xs ≡ first_below (λ j. p (get_or xs j d)) (length xs)
+    go true e = let h = ltb-true (position_or_len p xs) (length xs) e in
+        sym (first_at (λ j. p (get_or xs j d)) (position_or_len p xs) passed (not_false (p (get_or xs (position_or_len p xs) d)) (prefix_len_stops (λ x. not (p x)) xs d h)) (length xs) h)
+    go false e =
+        let q : position_or_len p xs ≡ length xs = omega (arith, ltb-false (position_or_len p xs) (length xs) e, prefix_len-le-length (λ x. not (p x)) xs) in
+        sym passed ∙ ap (first_below (λ j. p (get_or xs j d))) q
+
+-- the sensor has the name
+abbrev named : List ℕ → Sensor → Bool
+named name n = same (name_of n) name
+
+module _ (sheet : Sheet) (name : List ℕ) (l : length sheet.sensors ≡ 32) {most : ℕ} (m : most ≡ held sheet) where
+  taken : length (take most sheet.sensors) ≡ held sheet
+  taken = omega (arith, length-take most sheet.sensors)
+
+  place_is : position_or_len (named name) (take most sheet.sensors) ≡ place_in sheet name
+  unfolding place_in
+  place_is =
+      position_first (named name) (take most sheet.sensors) no_sensor
+      ∙ (ap (first_below (λ j. named name (get_or (take most sheet.sensors) j no_sensor))) taken
+      ∙ first_same (λ j. named name (get_or (take most sheet.sensors) j no_sensor)) (λ j. named name (sensor_of sheet j)) (held sheet)
+      (λ k h. ap (named name) (get_or-take most sheet.sensors k no_sensor (omega arith))))
 
   -- the place is found, or no sensor has the name
-  pub searching_found : named sheet name j ≡ true → j < held sheet → j ≡ place_in sheet name
-  unfolding place_in
-  searching_found h k = sym (first_at (named sheet name) j f.passed h (held sheet) k)
+  module _ {found : Option ℕ} (e : found ≡ position (named name) (take most sheet.sensors)) where
+    pub place_found : {j : ℕ} → found ≡ Some j → (j ≡ place_in sheet name) × (j < held sheet)
+    place_found {j} h =
+        let q = cond_some (ltb (position_or_len (named name) (take most sheet.sensors)) (length (take most sheet.sensors))) (position_or_len (named name) (take most sheet.sensors)) j (sym e ∙ h) in
+        (sym q.1 ∙ place_is, omega (arith, taken, q.1, ltb-true (position_or_len (named name) (take most sheet.sensors)) (length (take most sheet.sensors)) q.0))
 
-  pub searching_none : held sheet ≤ j → j ≡ place_in sheet name
-  unfolding place_in
-  searching_none k = let e : j ≡ held sheet = omega (arith, f.within) in sym f.passed ∙ ap (first_below (named sheet name)) e
-
--- a place that is not the count is that of a sensor
-pub place_known : (sheet : Sheet) (name : List ℕ) {j : ℕ} → j ≡ place_in sheet name → (j ≡ held sheet → ⊥) → j < held sheet
-unfolding place_in
-place_known sheet name e k = omega (arith, e, first_most (λ j. same (name_of (sensor_of sheet j)) name) (held sheet), k)
+    pub place_unknown : found ≡ None → held sheet ≤ place_in sheet name
+    place_unknown h = rw (← place_is) (go (ltb (position_or_len (named name) (take most sheet.sensors)) (length (take most sheet.sensors))) refl (sym e ∙ h))
+      where
+        go : (b : Bool) → ltb (position_or_len (named name) (take most sheet.sensors)) (length (take most sheet.sensors)) ≡ b
+            → ◌≡◌ {A = Option ℕ} (cond b (Some (position_or_len (named name) (take most sheet.sensors))) None) None → held sheet ≤ position_or_len (named name) (take most sheet.sensors)
+        go true t k = absurd (cc)
+        go false t k = omega (arith, taken, ltb-false (position_or_len (named name) (take most sheet.sensors)) (length (take most sheet.sensors)) t)
 
 -- a list gone on with more places, up to the first that is past
-abbrev scan_on : Sheet → Listed → List ℕ → Listed
+abbrev scan_on : Sheet → Result Listed Refusal → List ℕ → Result Listed Refusal
 scan_on sheet list [] = list
-scan_on sheet list (j ∷ js) = cond (is_past sheet j) (listing 16 []) (scan_on sheet (with_place list j) js)
+scan_on sheet list (j ∷ js) = cond (is_past sheet j) (Err UnknownSensor) (scan_on sheet (gone_on list j) js)
 
-scan_distinctly : (sheet : Sheet) (done js : List ℕ) → scan_on sheet (distinctly done) js ≡ cond (any (is_past sheet) js) (listing 16 []) (distinctly (done ++ js))
+scan_distinctly : (sheet : Sheet) (done js : List ℕ) → scan_on sheet (distinctly done) js ≡ cond (any (is_past sheet) js) (Err UnknownSensor) (distinctly (done ++ js))
 unfolding any
 scan_distinctly sheet done [] = ap distinctly (sym (append-nil done))
 scan_distinctly sheet done (j ∷ js) = go (is_past sheet j) (scan_distinctly sheet (done ++ (j ∷ [])) js)
   where
-    go : (t : Bool) → scan_on sheet (distinctly (done ++ (j ∷ []))) js ≡ cond (any (is_past sheet) js) (listing 16 []) (distinctly ((done ++ (j ∷ [])) ++ js))
-        → cond t (listing 16 []) (scan_on sheet (with_place (distinctly done) j) js) ≡ cond (t || any (is_past sheet) js) (listing 16 []) (distinctly (done ++ j ∷ js))
+    go : (t : Bool) → scan_on sheet (distinctly (done ++ (j ∷ []))) js ≡ cond (any (is_past sheet) js) (Err UnknownSensor) (distinctly ((done ++ (j ∷ [])) ++ js))
+        → cond t (Err UnknownSensor) (scan_on sheet (gone_on (distinctly done) j) js) ≡ cond (t || any (is_past sheet) js) (Err UnknownSensor) (distinctly (done ++ j ∷ js))
     go true ih = refl
     go false ih = rw (with_distinctly done j, ← append_assoc done (j ∷ []) js) ih
 
--- the places that the text from a position on names; none past its end
-abbrev rest_named : Sheet → List ℕ → ℕ → List ℕ
-rest_named sheet names from = cond (leb from (length names)) (places_named sheet (drop from names)) []
+-- the list so far, behind n of the names
+pub record Scanning (sheet : Sheet) (names : List ℕ) (list : Result Listed Refusal) (n : ℕ) : Type 0 where
+  pub fit : IfOk list Places
+  pub on : scan_on sheet list (map (place_in sheet) (drop n (split names))) ≡ scanned sheet (places_named sheet names)
 
--- the list so far, at a position of the text
-pub record Scanning (sheet : Sheet) (names : List ℕ) (list : Listed) (from : ℕ) : Type 0 where
-  pub inside : from ≤ length names + 1
-  pub fit : Places list
-  pub on : scan_on sheet list (rest_named sheet names from) ≡ scanned sheet (places_named sheet names)
+pub scanning : (sheet : Sheet) (names : List ℕ) {list : Listed} → list ≡ listing [] → Scanning sheet names (Ok list) 0
+unfolding scanned distinctly twice places_named
+scanning sheet names e = rw e (record { fit = places_none; on = scan_distinctly sheet [] (places_named sheet names) })
 
-pub scanning : (sheet : Sheet) (names : List ℕ) {list : Listed} → list ≡ listing 0 [] → Scanning sheet names list 0
-unfolding scanned distinctly twice
-scanning sheet names e = rw e (record { inside = omega arith; fit = places_none 0; on = rw (le-leb 0 (length names) (omega arith)) (scan_distinctly sheet [] (places_named sheet names)) })
+module _ {sheet : Sheet} {names : List ℕ} {list : Result Listed Refusal} {n : ℕ} (f : Scanning sheet names list n) where
+  pub scanning_end : n ≡ length (slice_split (λ b. eqb b 44) names) → list ≡ scanned sheet (places_named sheet names)
+  scanning_end e = sym (ap (λ l. scan_on sheet list (map (place_in sheet) l)) (drop_all n (split names) (rw (e, split_parts names) (omega arith)))) ∙ f.on
 
-module _ {sheet : Sheet} {names : List ℕ} {list : Listed} {from : ℕ} (f : Scanning sheet names list from) where
-  pub scanning_end : length names < from → list ≡ scanned sheet (places_named sheet names)
-  scanning_end h = sym (ap (λ t. scan_on sheet list (cond t (places_named sheet (drop from names)) [])) (lt-leb from (length names) h)) ∙ f.on
+  -- the next name and its place
+  module _ {name : List ℕ} (t : (n < length (slice_split (λ b. eqb b 44) names)) × (name ≡ get_or (slice_split (λ b. eqb b 44) names) n name)) where
+    h : (n < length (split names)) × (name ≡ get_or (split names) n name)
+    h = subst (λ l. (n < length l) × (name ≡ get_or l n name)) (split_parts names) t
 
-  -- the name there, of n bytes
-  module _ (h : from ≤ length names) {n : ℕ} (e : n ≡ length (run in_name (take (length names - from) (drop from names)))) where
-    length-is : n ≡ length (run in_name (drop from names))
-    length-is = e ∙ ap (λ (l : List ℕ). length (run in_name l)) (to_end names from)
+    on_by : (t : Bool) → is_past sheet (place_in sheet name) ≡ t
+        → cond t (Err UnknownSensor) (scan_on sheet (gone_on list (place_in sheet name)) (map (place_in sheet) (drop (n + 1) (split names)))) ≡ scanned sheet (places_named sheet names)
+    on_by t k = rw (← k) (ap (λ w. cond (is_past sheet (place_in sheet w)) (Err UnknownSensor) (scan_on sheet (gone_on list (place_in sheet w)) (map (place_in sheet) (drop (n + 1) (split names))))) h.1
+        ∙ (ap (λ l. scan_on sheet list (map (place_in sheet) l)) (sym (drop_more (split names) n name h.0)) ∙ f.on))
 
-    pub name_inside : from + n ≤ length names
-    name_inside = omega (arith, length-is, run_le in_name (drop from names), length-drop from names)
+    pub scanning_on : {j : ℕ} {next : Result Listed Refusal} → (j ≡ place_in sheet name) × (j < held sheet) → next ≡ gone_on list j → {m : ℕ} → m ≡ n + 1 → Scanning sheet names next m
+    scanning_on q w e = rw (e, w, q.0) (record { fit = places_on list f.fit (omega (arith, q.0, q.1)); on = on_by false (lt-leb (held sheet) (place_in sheet name) (omega (arith, q.0, q.1))) })
 
-    name_is : take (from + n - from) (drop from names) ≡ run in_name (drop from names)
-    name_is = let q : from + n - from ≡ length (run in_name (drop from names)) = omega (arith, length-is) in rw q (run_take in_name (drop from names))
-
-    rest_next : rest_named sheet names from ≡ place_in sheet (take (from + n - from) (drop from names)) ∷ rest_named sheet names (from + n + 1)
-    unfolding places_named
-    rest_next = rw (le-leb from (length names) h, name_is) (go (ltb n (length (drop from names))) refl)
-      where
-        go : (b : Bool) → ltb n (length (drop from names)) ≡ b → places_named sheet (drop from names) ≡ place_in sheet (run in_name (drop from names)) ∷ rest_named sheet names (from + n + 1)
-        go true l =
-            let k : length (run in_name (drop from names)) < length (drop from names) = omega (arith, length-is, ltb-true n (length (drop from names)) l) in
-            let q : from + n + 1 ≡ from + suc (length (run in_name (drop from names))) = omega (arith, length-is) in
-            rw (le-leb (from + n + 1) (length names) (omega (arith, length-is, length-drop from names)), q, ← drop-drop (suc (length (run in_name (drop from names)))) from names)
-            (ap (map (place_in sheet)) (split_more (drop from names) k))
-        go false l =
-            rw (lt-leb (from + n + 1) (length names) (omega (arith, length-drop from names, ltb-false n (length (drop from names)) l)))
-            (ap (map (place_in sheet)) (split_last (drop from names) (omega (arith, length-is, ltb-false n (length (drop from names)) l))))
-
-    -- its place
-    module _ {j : ℕ} (q : j ≡ place_in sheet (take (from + n - from) (drop from names))) where
-      pub known : (j ≡ held sheet → ⊥) → j < held sheet
-      known k = place_known sheet (take (from + n - from) (drop from names)) q k
-
-      on_by : (t : Bool) → is_past sheet j ≡ t → cond t (listing 16 []) (scan_on sheet (with_place list j) (rest_named sheet names (from + n + 1))) ≡ scanned sheet (places_named sheet names)
-      on_by t k = rw (← k, q) (ap (scan_on sheet list) (sym rest_next) ∙ f.on)
-
-      pub scanning_on : {next : Listed} → next ≡ with_place list j → j < held sheet → Scanning sheet names next (from + n + 1)
-      scanning_on w k = rw w (record { inside = omega (arith, name_inside); fit = places_with f.fit (omega (arith, k)); on = on_by false (lt-leb (held sheet) j k) })
-
-      pub scanning_unknown : j ≡ held sheet → listing 16 [] ≡ scanned sheet (places_named sheet names)
-      scanning_unknown k = on_by true (le-leb (held sheet) j (omega (arith, k)))
+    pub scanning_unknown : held sheet ≤ place_in sheet name → Err UnknownSensor ≡ scanned sheet (places_named sheet names)
+    scanning_unknown k = on_by true (le-leb (held sheet) (place_in sheet name) k)

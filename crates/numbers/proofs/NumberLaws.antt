@@ -5,7 +5,7 @@ use native.Mathlib.Omega.{arith}
 use mathlib.Core.Path.{◌≡◌, refl, sym, ap, ◌∙◌}
 use mathlib.Core.Bool.{Bool, true, false, cond, ◌&&◌, and-true, and-eq-true_iff}
 use mathlib.Core.List.{List, [], ◌∷◌, ◌++◌, append-nil}
-use mathlib.Core.Option.{Option, some, none}
+use Rattle.std.specs.Prelude.{Option, Some, None}
 use borrow.Author.Tests.{eq-eqb, ne_eqb, ltb-true, leb-true, eqb-true}
 use lib.Dec.{leb, eqb}
 use lib.ListN.{length, take, drop, get_or}
@@ -23,9 +23,7 @@ use Rattle.output.proofs.ReadBack as back
 use Rattle.output.proofs.TextLaws.{same_true, same_refl}
 use Rattle.texts.proofs.At.{to_end}
 use Rattle.texts.proofs.BeforeLaws.{before_is}
-use Rattle.numbers.specs.declared.Number.{Number}
-use Rattle.numbers.specs.declared.Number.TheVariants.{Is, Bad}
-use Rattle.numbers.specs.Number.{number_of, held_parts, held_signed}
+use Rattle.numbers.specs.Number.{held_parts, held_signed}
 
 -- what was written at the start of a buffer with room for it
 pub written : {xs ys : List ℕ} {r : ℕ} {bs : List ℕ} → Wrote (output xs 0) bs (output ys r) → length bs ≤ length xs → take r ys ≡ bs
@@ -41,31 +39,31 @@ pub record Readable (read : List ℕ → Option ℕ) (write : ℕ → List ℕ) 
 
 -- t is read as the number m that it is tried as where s, the text of m, is t
 module _ {read : List ℕ → Option ℕ} {write : ℕ → List ℕ} {in_range : ℕ → Bool} {tried : List ℕ → ℕ} (l : Readable read write in_range tried) where
-  compared : (t s : List ℕ) (m : ℕ) → m ≡ tried t → (in_range m ≡ true → s ≡ write m) → cond (in_range m && same s t) (Is m) Bad ≡ number_of (read t)
+  compared : (t s : List ℕ) (m : ℕ) → m ≡ tried t → (in_range m ≡ true → s ≡ write m) → cond (in_range m && same s t) (Some m) None ≡ read t
   compared t s m n w = go (read t) refl
     where
-      not_same : read t ≡ none → (b : Bool) → in_range m && same s t ≡ b → cond b (Is m) Bad ≡ Bad
+      not_same : read t ≡ None → (b : Bool) → in_range m && same s t ≡ b → cond b (Some m) None ≡ None
       not_same e true p =
           let k = (and-eq-true_iff (in_range m) (same s t)).0 p in
           let q : t ≡ write m = sym (same_true s t k.1) ∙ w k.0 in
-          let r : read t ≡ some m = ap read q ∙ l.exact.back m k.0 in
+          let r : read t ≡ Some m = ap read q ∙ l.exact.back m k.0 in
           let z : ◌≡◌ {A = ℕ} 0 1 = cc in
           absurd (omega arith)
       not_same e false p = refl
 
-      go : (o : Option ℕ) → read t ≡ o → cond (in_range m && same s t) (Is m) Bad ≡ number_of o
-      go none e = not_same e (in_range m && same s t) refl
-      go (some x) e =
+      go : (o : Option ℕ) → read t ≡ o → cond (in_range m && same s t) (Some m) None ≡ o
+      go None e = not_same e (in_range m && same s t) refl
+      go (Some x) e =
           let k = l.exact.only t x e in
           let y : m ≡ x = n ∙ ap tried (sym k.1) ∙ l.again x k.0 in
           let r : in_range m ≡ true = ap in_range y ∙ k.0 in
           let q : s ≡ t = w r ∙ ap write y ∙ k.1 in
           rw (r, q, same_refl t, y)
 
-  pub read_again : {t xs ys s : List ℕ} {m p : ℕ} {b : Bool} {r : Number} → m ≡ tried t → Wrote (output xs 0) (write m) (output ys p) → 20 ≤ length xs → s ≡ take p ys
-      → b ≡ in_range m → r ≡ cond (b && same s t) (Is m) Bad → r ≡ number_of (read t)
+  pub read_again : {t xs ys s : List ℕ} {m p : ℕ} {b : Bool} {r : Option ℕ} → m ≡ tried t → Wrote (output xs 0) (write m) (output ys p) → 20 ≤ length xs → s ≡ take p ys
+      → b ≡ in_range m → r ≡ cond (b && same s t) (Some m) None → r ≡ read t
   read_again {t} {xs} {ys} {s} {m} {p} {b} {r} n w room start e h =
-      h ∙ ap (λ (a : Bool). cond (a && same s t) (Is m) Bad) e
+      h ∙ ap (λ (a : Bool). cond (a && same s t) (Some m) None) e
       ∙ compared t s m n (λ k. let f = l.short m k in start ∙ written w (omega arith))
 
 -- ---- digits alone

@@ -1,15 +1,7 @@
--- A number that was read, and the number that a text with a point is tried as.
+-- The number that a text with a point is tried as.
 use Rattle.std.specs.Prelude.{ℕ, ◌-◌, ◌*◌, ◌/◌, ◌^◌, min, List, ◌++◌, length}
 use Prim.Native.Char.{code}
-use Rattle.std.proofs.Math.Option.{Option, none, some}
 use Rattle.output.specs.Read.{value_from, up_to, past, from_bias}
-use Rattle.numbers.specs.declared.Number.{Number}
-use Rattle.numbers.specs.declared.Number.TheVariants.{Is, Bad}
-
--- a number that was read, or none
-abbrev pub number_of : Option ℕ → Number
-number_of none = Bad
-number_of (some n) = Is n
 
 -- what `parts` counts, with the digits up to what 64 bits hold of it
 unfoldable pub held_parts : ℕ → List ℕ → ℕ

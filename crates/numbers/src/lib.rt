@@ -2,10 +2,10 @@
 //! again, is the text.
 #![tactic(auto)]
 
-ghost use Rattle.std.specs.Prelude.{◌≡◌, cond, ◌&&◌, ◌++◌, ◌+◌, ◌-◌, ◌*◌, ◌/◌, ◌^◌, ◌<◌, ◌≤◌, min};
+ghost use Rattle.std.specs.Prelude.{◌≡◌, cond, ◌&&◌, ◌++◌, ◌+◌, ◌-◌, ◌*◌, ◌/◌, ◌^◌, ◌<◌, ◌≤◌, min, Some, None};
 ghost use Rattle.output.specs.Text as text;
 ghost use Rattle.output.specs.Read as reads;
-ghost use Rattle.numbers.specs.Number.{number_of, held_parts, held_signed};
+ghost use Rattle.numbers.specs.Number.{held_parts, held_signed};
 
 // The most bytes that a number's text has.
 const LONGEST: usize = 20;
@@ -37,42 +37,12 @@ pub const LAST_DIFFERENCE: u64 = 2097152000000;
 
 const LAST_WHOLE_DIFFERENCE: u64 = 4294967295000000;
 
-// A number that was read, or that the text is none.
-#[derive(Clone, Copy)]
-pub enum Number {
-    Is(u64),
-    Bad,
-}
-
-// The smaller of two numbers.
-fn least(a: u64, b: u64) -> u64
-    ensures { result ≡ min a b }
-{
-    if a < b { a } else { b }
-}
-
-// The number of a digit, 0 for a byte below the digits.
-fn digit_of(b: u8) -> u64
-    ensures { result ≡ b - 48 }
-{
-    if b < b'0' {
-        return 0;
-    }
-    (b - b'0') as u64
-}
-
 // n and one digit more, `most` at most.
 fn with_digit(n: u64, b: u8, most: u64) -> u64
     ensures { result ≡ min (n * 10 + (b - 48)) most }
 {
-    let d = digit_of(b);
-    if most < d {
-        return most;
-    }
-    if (most - d) / 10 < n {
-        return most;
-    }
-    n * 10 + d
+    let d = b.saturating_sub(b'0') as u64;
+    n.saturating_mul(10).saturating_add(d).min(most)
 }
 
 // The number that digits make behind those of `n`, `most` at most.
@@ -81,10 +51,8 @@ fn digits_after(n: u64, t: &[u8], most: u64) -> u64
     ensures { result ≡ min (reads.value_from n t.now) most }
 {
     let mut m = n;
-    let mut i = 0;
-    while i < t.len() {
-        m = with_digit(m, t[i], most);
-        i += 1;
+    for b in t {
+        m = with_digit(m, *b, most);
     }
     m
 }
@@ -107,11 +75,9 @@ pub fn both_value(a: &[u8], b: &[u8], most: u64) -> u64
 pub fn with_zeros(n: u64, count: usize, most: u64) -> u64
     ensures { result ≡ min (n * 10 ^ count) most }
 {
-    let mut m = least(n, most);
-    let mut i = 0;
-    while i < count {
+    let mut m = n.min(most);
+    for _ in 0..count {
         m = with_digit(m, b'0', most);
-        i += 1;
     }
     m
 }
@@ -121,10 +87,8 @@ fn without_digits(n: u64, places: usize) -> u64
     ensures { result ≡ n / 10 ^ places }
 {
     let mut m = n;
-    let mut i = 0;
-    while i < places {
+    for _ in 0..places {
         m /= 10;
-        i += 1;
     }
     m
 }
@@ -150,24 +114,24 @@ fn signed_of(t: &[u8], bias: u64, base: u64) -> u64
         return bias;
     }
     if t[0] == b'-' {
-        return bias - least(parts_of(&t[1..], base), bias);
+        return bias - parts_of(&t[1..], base).min(bias);
     }
-    bias + least(parts_of(t, base), bias)
+    bias + parts_of(t, base).min(bias)
 }
 
 // The number n, where it is in range and `again`, its text, is t.
-fn taken(n: u64, in_range: bool, again: &[u8], t: &[u8]) -> Number
-    ensures { result ≡ cond (in_range && text.same again.now t.now) (Number.Is n) Number.Bad }
+fn taken(n: u64, in_range: bool, again: &[u8], t: &[u8]) -> Option<u64>
+    ensures { result ≡ cond (in_range && text.same again.now t.now) (Some n) None }
 {
-    if in_range & texts::same(again, t) {
-        return Number::Is(n);
+    if in_range & (again == t) {
+        return Some(n);
     }
-    Number::Bad
+    None
 }
 
 // A decimal that 64 bits hold.
-pub fn read_decimal(t: &[u8]) -> Number
-    ensures { result ≡ number_of (reads.read_decimal t.now) }
+pub fn read_decimal(t: &[u8]) -> Option<u64>
+    ensures { result ≡ reads.read_decimal t.now }
 {
     let n = digits_value(t, u64::MAX);
     let mut again = [0u8; LONGEST];
@@ -176,8 +140,8 @@ pub fn read_decimal(t: &[u8]) -> Number
 }
 
 // A time, in milliseconds.
-pub fn read_time(t: &[u8]) -> Number
-    ensures { result ≡ number_of (reads.read_time t.now) }
+pub fn read_time(t: &[u8]) -> Option<u64>
+    ensures { result ≡ reads.read_time t.now }
 {
     let n = parts_of(t, THOUSAND);
     let mut again = [0u8; LONGEST];
@@ -186,8 +150,8 @@ pub fn read_time(t: &[u8]) -> Number
 }
 
 // A signed 32-bit number, counted from -2^31.
-pub fn read_integer(t: &[u8]) -> Number
-    ensures { result ≡ number_of (reads.read_integer t.now) }
+pub fn read_integer(t: &[u8]) -> Option<u64>
+    ensures { result ≡ reads.read_integer t.now }
 {
     let n = signed_of(t, INTEGER_BIAS, 1);
     let mut again = [0u8; LONGEST];
@@ -196,8 +160,8 @@ pub fn read_integer(t: &[u8]) -> Number
 }
 
 // A float, in 1024ths from -2^30.
-pub fn read_float(t: &[u8]) -> Number
-    ensures { result ≡ number_of (reads.read_float t.now) }
+pub fn read_float(t: &[u8]) -> Option<u64>
+    ensures { result ≡ reads.read_float t.now }
 {
     let n = signed_of(t, FLOAT_BIAS, BINARY_THOUSAND);
     let mut again = [0u8; LONGEST];
@@ -206,8 +170,8 @@ pub fn read_float(t: &[u8]) -> Number
 }
 
 // A difference written like a float, in millionths.
-pub fn read_difference(t: &[u8]) -> Number
-    ensures { result ≡ number_of (reads.read_difference t.now) }
+pub fn read_difference(t: &[u8]) -> Option<u64>
+    ensures { result ≡ reads.read_difference t.now }
 {
     let n = parts_of(t, MILLION);
     let mut again = [0u8; LONGEST];
@@ -216,8 +180,8 @@ pub fn read_difference(t: &[u8]) -> Number
 }
 
 // A difference of integers, in millionths.
-pub fn read_whole_difference(t: &[u8]) -> Number
-    ensures { result ≡ number_of (reads.read_whole_difference t.now) }
+pub fn read_whole_difference(t: &[u8]) -> Option<u64>
+    ensures { result ≡ reads.read_whole_difference t.now }
 {
     let n = digits_value(t, INTEGERS) * MILLION;
     let mut again = [0u8; LONGEST];
@@ -226,8 +190,8 @@ pub fn read_whole_difference(t: &[u8]) -> Number
 }
 
 // A boolean: 0 or 1.
-pub fn read_boolean(t: &[u8]) -> Number
-    ensures { result ≡ number_of (reads.read_boolean t.now) }
+pub fn read_boolean(t: &[u8]) -> Option<u64>
+    ensures { result ≡ reads.read_boolean t.now }
 {
     let n = digits_value(t, u64::MAX);
     let mut again = [0u8; LONGEST];

@@ -6,7 +6,7 @@ use native.Mathlib.Omega.{arith}
 use mathlib.Core.Path.{◌≡◌, refl, ap, ◌∙◌}
 use mathlib.Core.Logic.{⊎_elim}
 use mathlib.Core.Bool.{Bool, true, false, cond, ◌&&◌}
-use mathlib.Core.Option.{none, some}
+use Rattle.std.specs.Prelude.{None, Some}
 use mathlib.Core.List.{List, [], ◌∷◌, ◌++◌, append-nil}
 use lib.Dec.{ltb, eqb}
 use lib.ListN.{length, drop}
@@ -140,10 +140,10 @@ from_bias_lem bias show value v digits back h = go (ltb v bias) refl
         unsigned bias value (show (v - bias)) (digits (v - bias)) ∙ rw (back (v - bias) (omega arith)) (omega arith)
 
 -- what is accepted is in range and its own text
-accepted_only : (write : ℕ → List ℕ) (in_range : ℕ → Bool) (t : List ℕ) (x y : ℕ) → accepted write in_range t x ≡ some y → (in_range y ≡ true) × (write y ≡ t)
+accepted_only : (write : ℕ → List ℕ) (in_range : ℕ → Bool) (t : List ℕ) (x y : ℕ) → accepted write in_range t x ≡ Some y → (in_range y ≡ true) × (write y ≡ t)
 accepted_only write in_range t x y e = go (in_range x) refl (same (write x) t) refl e
   where
-    go : (a : Bool) → in_range x ≡ a → (b : Bool) → same (write x) t ≡ b → cond (a && b) (some x) none ≡ some y → (in_range y ≡ true) × (write y ≡ t)
+    go : (a : Bool) → in_range x ≡ a → (b : Bool) → same (write x) t ≡ b → cond (a && b) (Some x) None ≡ Some y → (in_range y ≡ true) × (write y ≡ t)
     go true p true q k = let z : x ≡ y = cc in rw (← z) (p, same_true (write x) t q)
     go true p false q k = let z : ◌≡◌ {A = ℕ} 0 1 = cc in absurd (omega arith)
     go false p b q k = let z : ◌≡◌ {A = ℕ} 0 1 = cc in absurd (omega arith)

@@ -1,7 +1,6 @@
 -- The texts of numbers read back: each reader takes exactly the texts that its writer gives for the numbers in range.
-use Rattle.std.specs.Prelude.{ℕ, ◌+◌, ◌-◌, ◌*◌, ◌/◌, ◌%◌, ◌^◌, ◌≡◌, Bool, true, not, cond, ◌&&◌, List, [], ◌∷◌, ◌++◌, eqb, leb, ltb, length, drop}
+use Rattle.std.specs.Prelude.{ℕ, ◌+◌, ◌-◌, ◌*◌, ◌/◌, ◌%◌, ◌^◌, ◌≡◌, Bool, true, not, cond, ◌&&◌, List, [], ◌∷◌, ◌++◌, eqb, leb, ltb, length, drop, Option, None, Some}
 use Prim.Native.Char.{code}
-use Rattle.std.proofs.Math.Option.{Option, none, some}
 use Rattle.output.specs.Text.{same, run, behind_run}
 use Rattle.output.specs.Number.{decimal, time, integer, float, difference, whole_difference}
 
@@ -34,7 +33,7 @@ from_bias bias value (b ∷ bs) = cond (eqb b (code "-")) (bias - value bs) (bia
 
 -- x, where it is in range and t is its text
 abbrev pub accepted : (ℕ → List ℕ) → (ℕ → Bool) → List ℕ → ℕ → Option ℕ
-accepted write in_range t x = cond (in_range x && same (write x) t) (some x) none
+accepted write in_range t x = cond (in_range x && same (write x) t) (Some x) None
 
 -- 64 bits
 abbrev pub in_decimal : ℕ → Bool
@@ -94,5 +93,5 @@ read_whole_difference t = accepted whole_difference in_whole_difference t (value
 
 -- `read t` is x exactly where x is in range and t is the text of x
 pub record Exactly (read : List ℕ → Option ℕ) (write : ℕ → List ℕ) (in_range : ℕ → Bool) : Type 0 where
-  pub back : (x : ℕ) → in_range x ≡ true → read (write x) ≡ some x
-  pub only : (t : List ℕ) (x : ℕ) → read t ≡ some x → (in_range x ≡ true) × (write x ≡ t)
+  pub back : (x : ℕ) → in_range x ≡ true → read (write x) ≡ Some x
+  pub only : (t : List ℕ) (x : ℕ) → read t ≡ Some x → (in_range x ≡ true) × (write x ≡ t)

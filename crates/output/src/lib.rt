@@ -32,10 +32,8 @@ pub fn put_bytes(out: &mut [u8], at: usize, s: &[u8]) -> usize
     ensures { Wrote (output out.old at) s.now (output out.new result) }
 {
     let mut p = at;
-    let mut i = 0;
-    while i < s.len() {
-        p = put_byte(out, p, s[i]);
-        i += 1;
+    for b in s {
+        p = put_byte(out, p, *b);
     }
     p
 }

@@ -4,10 +4,10 @@
 //! Behind the field's name stand its place (sensor, client, subscription), its index in an array, and its value.
 #![tactic(auto)]
 
-use line::Copied;
 use machine::{Client, Sensor, Sheet, State, Stored, Strategy, Subscription};
 use std::io::Write;
 use std::rt::HostRuntime;
+use stream::Unwritten;
 use value::{Limits, Sample};
 
 // The numbers behind the field's name, 0 where there are fewer.
@@ -20,21 +20,11 @@ struct Numbers {
     e: u64,
 }
 
-// A number with a decimal digit behind it, where there is one.
-fn with_digit(n: u64, there: bool, b: u8) -> u64 {
-    if there {
-        return n % 1000000000000000000 * 10 + (b % 16) as u64;
-    }
-    n
-}
-
-// The number that the first n bytes of a text make, decimal digits, at most 19 of them.
-fn decimal_value(s: &[u8], n: usize) -> u64 {
+// The number that decimal digits make, at most 19 of them.
+fn decimal_value(s: &[u8]) -> u64 {
     let mut value: u64 = 0;
-    let mut i = 0;
-    while i < s.len() {
-        value = with_digit(value, i < n, s[i]);
-        i += 1;
+    for b in s {
+        value = value % 1000000000000000000 * 10 + u64::from(*b % 16);
     }
     value
 }
@@ -42,10 +32,10 @@ fn decimal_value(s: &[u8], n: usize) -> u64 {
 // Argument k of a line as a number.
 fn number(line: &[u8], k: usize) -> u64 {
     let mut text = [0u8; 32];
-    let Copied::Whole(n) = line::argument(line, k, &mut text) else {
+    let Some(n) = line::argument(line, k, &mut text) else {
         return 0;
     };
-    decimal_value(&text, n)
+    decimal_value(texts::prefix(&text, n))
 }
 
 fn numbers_of(line: &[u8]) -> Numbers {
@@ -61,7 +51,7 @@ fn numbers_of(line: &[u8]) -> Numbers {
 // Whether a line sets a field.
 fn sets(line: &[u8], field: &[u8]) -> bool {
     let mut text: [u8; 32] = [0; 32];
-    let Copied::Whole(n) = line::argument(line, 0, &mut text) else {
+    let Some(n) = line::argument(line, 0, &mut text) else {
         return false;
     };
     texts::same(texts::prefix(&text, n), field)
@@ -310,63 +300,48 @@ fn with_field(s: State, line: &[u8], n: Numbers) -> State {
     next
 }
 
-// Whether all was printed.
-fn print_range<W: Write>(to: &mut W, line: &[u8], s: State) -> bool {
+// What is shown, and whether the state is in range.
+fn print_range<W: Write>(to: &mut W, line: &[u8], s: State) -> Result<(), Unwritten> {
+    stream::print(to, line)?;
     if sheet::in_range(s) {
-        return stream::print(to, line) && stream::print(to, b" 1\n");
+        return stream::print(to, b" 1\n");
     }
-    stream::print(to, line) && stream::print(to, b" 0\n")
+    stream::print(to, b" 0\n")
 }
 
-// The state after a line, and whether all was printed.
-#[derive(Clone, Copy)]
-struct Turn {
-    state: State,
-    printed: bool,
+// A line changes the state where it begins with `+`, and leaves the blank one where it begins with `-`.
+fn show<W: Write>(
+    to: &mut W,
+    line: &[u8],
+    state: &mut State,
+    blank: State,
+) -> Result<(), Unwritten> {
+    let Some(first) = line.first() else {
+        return Ok(());
+    };
+    if *first == b'-' {
+        *state = blank;
+        return print_range(to, line, blank);
+    }
+    let next = with_field(*state, line, numbers_of(line));
+    if *first == b'+' {
+        *state = next;
+    }
+    print_range(to, line, next)
 }
 
-// The state after a line: the changed one where the line begins with `+`, the blank one where it begins with `-`.
-fn show<W: Write>(to: &mut W, line: &[u8], s: State, blank: State) -> Turn {
-    let next = with_field(s, line, numbers_of(line));
-    if line.len() == 0 {
-        return Turn {
-            state: s,
-            printed: true,
-        };
+// Each line, the last one too where it has no end.
+fn show_lines<W: Write>(
+    to: &mut W,
+    s: &[u8],
+    state: &mut State,
+    blank: State,
+) -> Result<(), Unwritten> {
+    for piece in s.split_inclusive(|b| *b == b'\n') {
+        let line = piece.strip_suffix(b"\n").unwrap_or(piece);
+        show(to, line, state, blank)?;
     }
-    if line[0] == b'-' {
-        return Turn {
-            state: blank,
-            printed: print_range(to, line, blank),
-        };
-    }
-    let printed = print_range(to, line, next);
-    if line[0] == b'+' {
-        return Turn {
-            state: next,
-            printed: printed,
-        };
-    }
-    Turn {
-        state: s,
-        printed: printed,
-    }
-}
-
-// Whether all was printed.
-fn show_lines<W: Write>(to: &mut W, s: &[u8], first: State, blank: State) -> bool {
-    let mut state = first;
-    let mut at = 0;
-    while at < s.len() {
-        let e = at + texts::len_before(&s[at..], 10);
-        let turn = show(to, &s[at..e], state, blank);
-        if !turn.printed {
-            return false;
-        }
-        state = turn.state;
-        at = e + 1;
-    }
-    true
+    Ok(())
 }
 
 fn main(rt: HostRuntime) {
@@ -379,8 +354,11 @@ fn main(rt: HostRuntime) {
         0,
         b"LGU\0\x01\x07lgu-1.0\x02b7\x05\x04load\x09Car load.\x02kg\x01\x04\0\0\0\0\0\0\x03\xe8\xff\xff\xff\xfb\0\0\x04\xb0\x05speed\0\x03m/s\x02\x02\xff\xff\xf8\0\0\0\x08\0\x04door\0\0\x04\x03\x04shut\x04open\x06moving\x04call\0\0\x03\x05start\0\0\x05",
     );
-    if !(print_range(to, b"opened", opened.state)
-        && show_lines(to, &input[..n], opened.state, broken.state))
+    let mut state = opened.state;
+    let printed = print_range(to, b"opened", state);
+    if printed
+        .and_then(|()| show_lines(to, &input[..n], &mut state, broken.state))
+        .is_err()
     {
         stream::say_unwritten(errors);
     }

@@ -1,5 +1,11 @@
 -- The table of requests, and the informs of `help` on it, one after another.
-use Prim.Native.Nat.{ℕ, suc, ◌+◌, ◌-◌, ◌≤◌, ◌<◌}
+use Rattle.std.specs.Prelude.{Option, None, Some, slice_get}
+use Rattle.std.specs.Option.{option_copied}
+use Rattle.std.specs.Slice.{IsItemAt}
+use Rattle.std.proofs.Common.{Bor}
+use Rattle.std.proofs.lemmas.Option.{slice_get_past, slice_get_read}
+use Rattle.machine.specs.declared.Request.{Request}
+use Prim.Native.Nat.{ℕ, zero, suc, ◌+◌, ◌-◌, ◌≤◌, ◌<◌}
 use native.Mathlib.Omega.{arith}
 use mathlib.Core.Path.{◌≡◌, refl, sym, ap, ◌∙◌}
 use mathlib.Core.Bool.{Bool, true, false, cond, not}
@@ -7,27 +13,44 @@ use mathlib.Core.List.{List, [], ◌∷◌, map}
 use lib.ListN.{length, drop}
 use Rattle.output.specs.Text.{text}
 use Rattle.output.specs.Output.{Output}
-use Rattle.output.proofs.TableLaws.{NoneOf, past_all}
 use Rattle.texts.specs.Table.{word_count, word_of, place_of}
 use Rattle.message.specs.Delivery.{Delivery, to, Sent}
 use Rattle.message.proofs.DeliveryLaws.{and, none_sent}
-use Rattle.machine.specs.declared.Found.TheVariants.{Unknown}
 use Rattle.machine.specs.Places.{gather, only}
 use Rattle.machine.specs.Sheet.{single}
 use Rattle.machine.specs.Messages.{all_to, help_inform}
 use Rattle.machine.specs.Requests.{Row, requests, request_named, hidden, found, shown_rows}
-use Rattle.machine.proofs.WordTables.{request_at, request_at_lem, request_past}
+use Rattle.machine.proofs.WordTables.{request_at, request_at_lem}
 
 abbrev pub table : List ℕ
 table = text "client-list|halt|help|log-level|restart|sensor-list|sensor-sampling|sensor-value|version-list|watchdog"
 
--- the request at a place of the table
-pub by_place : (profile : ℕ) (name : List ℕ) (n : ℕ) {k : ℕ} → k ≡ place_of table name → k ≡ n → found profile (request_at requests n) ≡ found profile (request_named name)
-unfolding place_of
-by_place profile name n e h = ap (λ (x : ℕ). found profile (request_at requests x)) (sym h ∙ e) ∙ sym (ap (found profile) (request_at_lem name))
+-- what is read at a place of a list
+copied_at : {A : Type 0} (xs : List A) (i : ℕ) (r : Option (Bor A)) → IsItemAt xs i r → option_copied r ≡ slice_get xs i
+copied_at xs i None h = sym (slice_get_past xs i h.3)
+copied_at xs i (Some x) h = sym (slice_get_read xs (length xs) i x.now refl h.3.0 h.1)
 
-pub no_place : (profile : ℕ) (name : List ℕ) {k : ℕ} → k ≡ place_of table name → NoneOf 0 10 k → Unknown ≡ found profile (request_named name)
-no_place profile name {k} e h = sym (ap (found profile) (request_past requests k (past_all 10 k h))) ∙ by_place profile name k e refl
+-- the request at a place of the table
+at_place : (rows : List Row) (n : ℕ) → slice_get (map (λ (r : Row). r.request) rows) n ≡ request_at rows n
+at_place [] n = refl
+at_place (r ∷ rows) zero = refl
+at_place (r ∷ rows) (suc n) = at_place rows n
+
+pub by_place : (name : List ℕ) {k : ℕ} (read : Option (Bor Request)) → k ≡ place_of table name → IsItemAt (map (λ (r : Row). r.request) requests) k read → option_copied read ≡ request_named name
+unfolding place_of
+by_place name {k} read e h = copied_at (map (λ (r : Row). r.request) requests) k read h ∙ (at_place requests k ∙ (ap (request_at requests) e ∙ sym (request_at_lem name)))
+
+-- under a profile
+module _ (profile : ℕ) {o found_at : Option Request} (e : found_at ≡ o) where
+  pub found_none : found_at ≡ None → None ≡ found profile o
+  found_none h = rw (sym e ∙ h)
+
+  module _ {r : Request} (h : found_at ≡ Some r) where
+    pub found_hidden : hidden profile r ≡ true → None ≡ found profile o
+    found_hidden t = rw (sym e ∙ h, t)
+
+    pub found_shown : hidden profile r ≡ false → Some r ≡ found profile o
+    found_shown t = rw (sym e ∙ h, t)
 
 -- the requests from place `first` on, so many of them
 abbrev told_from : ℕ → ℕ → ℕ → ℕ → List Delivery

@@ -1,8 +1,7 @@
 //! What requests are answered with: the informs that are tied to one, and its reply.
 #![tactic(auto)]
 
-ghost use Rattle.std.specs.Prelude.{◌≡◌, cond, [], ◌∷◌, map, ◌+◌, ◌<◌, length};
-ghost use Rattle.std.proofs.Math.Option.{some};
+ghost use Rattle.std.specs.Prelude.{◌≡◌, cond, [], ◌∷◌, map, ◌+◌, ◌<◌, length, Some};
 ghost use Rattle.output.specs.Output.{output, Wrote};
 ghost use Rattle.message.specs.Message.{arg, args_text, write, line};
 ghost use Rattle.message.specs.Delivery.{to, Sent};
@@ -10,11 +9,11 @@ ghost use Rattle.machine.specs.Places.{one_if, tabulate};
 ghost use Rattle.machine.specs.Sheet.{single, option_of};
 ghost use Rattle.machine.specs.State.{address_of};
 ghost use Rattle.machine.specs.Messages as messages;
-ghost use Rattle.machine.specs.Requests.{Row, request_named, found, shown_rows, addresses_below};
+ghost use Rattle.machine.specs.Requests.{Row, request_named, hidden, found, shown_rows, addresses_below};
 ghost use Rattle.machine.specs.Declined.{count_fits};
 ghost use Rattle.replies.specs.Asking.{asking, names_told};
 
-use machine::{Client, Found, Request, Sensor, Sheet, Strategy};
+use machine::{Client, Request, Sensor, Sheet, Strategy};
 
 // How far an output is written, and how many informs that were.
 #[derive(Clone, Copy)]
@@ -27,33 +26,41 @@ pub struct Told {
 const REQUESTS: [u8; 102] =
     *b"client-list|halt|help|log-level|restart|sensor-list|sensor-sampling|sensor-value|version-list|watchdog";
 
-// `client-list`, which units with a single client do not have.
-fn client_list_under(profile: u8) -> Found
-    ensures { result ≡ found profile (some Request.ClientList) }
+// The requests in the order of their names.
+const BY_PLACE: [Request; 10] = [
+    Request::ClientList,
+    Request::Halt,
+    Request::Help,
+    Request::LogLevel,
+    Request::Restart,
+    Request::SensorList,
+    Request::SensorSampling,
+    Request::SensorValue,
+    Request::VersionList,
+    Request::Watchdog,
+];
+
+// Whether a profile does not have a request: units with a single client have no `client-list`.
+fn is_hidden(profile: u8, request: Request) -> bool
+    ensures { result ≡ hidden profile request }
 {
-    if machine::is_single(profile) {
-        return Found::Unknown;
+    match request {
+        Request::ClientList => machine::is_single(profile),
+        _ => false,
     }
-    Found::Is(Request::ClientList)
 }
 
 // The request of a name under a profile.
-pub fn request_named(profile: u8, name: &[u8]) -> Found
+pub fn request_named(profile: u8, name: &[u8]) -> Option<Request>
     ensures { result ≡ found profile (request_named name.now) }
 {
-    match texts::place_of(&REQUESTS, name) {
-        0 => client_list_under(profile),
-        1 => Found::Is(Request::Halt),
-        2 => Found::Is(Request::Help),
-        3 => Found::Is(Request::LogLevel),
-        4 => Found::Is(Request::Restart),
-        5 => Found::Is(Request::SensorList),
-        6 => Found::Is(Request::SensorSampling),
-        7 => Found::Is(Request::SensorValue),
-        8 => Found::Is(Request::VersionList),
-        9 => Found::Is(Request::Watchdog),
-        _ => Found::Unknown,
+    let Some(request) = BY_PLACE.get(texts::place_of(&REQUESTS, name)).copied() else {
+        return None;
+    };
+    if is_hidden(profile, request) {
+        return None;
     }
+    Some(request)
 }
 
 // Whether a request takes so many arguments.
@@ -61,16 +68,11 @@ pub fn count_fits(request: Request, count: usize) -> bool
     ensures { result ≡ count_fits request count }
 {
     match request {
-        Request::ClientList => count == 0,
-        Request::Halt => count == 0,
-        Request::Help => count <= 1,
-        Request::LogLevel => count <= 1,
-        Request::Restart => count == 0,
-        Request::SensorList => count <= 1,
+        Request::Help | Request::LogLevel | Request::SensorList | Request::SensorValue => {
+            count <= 1
+        }
         Request::SensorSampling => 1 <= count,
-        Request::SensorValue => count <= 1,
-        Request::VersionList => count == 0,
-        Request::Watchdog => count == 0,
+        _ => count == 0,
     }
 }
 
@@ -173,16 +175,15 @@ pub fn deliver_sampling(
 }
 
 // The address of a client that is connected.
-fn tell_client(out: &mut [u8], told: Told, client: u8, id: u64, k: Client) -> Told
+fn tell_client(out: &mut [u8], told: Told, client: u8, id: u64, k: &Client) -> Told
     requires { told.count < 8 }
-    ensures sent { Sent (output out.old told.at) (messages.all_to client (map (messages.client_inform id) (one_if k.connected (address_of k)))) (output out.new result.at) }
-    ensures count_value { result.count ≡ told.count + length (one_if k.connected (address_of k)) }
+    ensures sent { Sent (output out.old told.at) (messages.all_to client (map (messages.client_inform id) (one_if k.now.connected (address_of k.now)))) (output out.new result.at) }
+    ensures count_value { result.count ≡ told.count + length (one_if k.now.connected (address_of k.now)) }
 {
     if !k.connected {
         return told;
     }
-    let address = k.address;
-    let text = texts::prefix(&address, k.address_len as usize);
+    let text = texts::prefix(&k.address, k.address_len as usize);
     let p = message::deliver_one(out, told.at, client, b'#', b"client-list", id, text);
     Told {
         at: p,
@@ -196,11 +197,8 @@ fn tell_clients(out: &mut [u8], client: u8, id: u64, clients: [Client; machine::
     ensures count_value { result.count ≡ length (addresses_below clients 8) }
 {
     let mut told = Told { at: 0, count: 0 };
-    let mut c: usize = 0;
-    while c < machine::CLIENTS {
-        let k = clients[c];
+    for k in &clients {
         told = tell_client(out, told, client, id, k);
-        c += 1;
     }
     told
 }
@@ -244,14 +242,12 @@ fn tell_requests(out: &mut [u8], client: u8, id: u64, profile: u8) -> Told
     let most = texts::word_count(&REQUESTS);
     let first = first_request(profile);
     let mut at: usize = 0;
-    let mut k: usize = first;
-    while k < most {
+    for k in first..most {
         at = tell_request(out, at, client, id, texts::word_of(&REQUESTS, k));
-        k += 1;
     }
     Told {
         at: at,
-        count: k - first,
+        count: most - first,
     }
 }
 
@@ -293,7 +289,6 @@ fn put_arg_type(out: &mut [u8], at: usize, kind: u8) -> usize
         2 => message::put_arg(out, at, b"float"),
         3 => message::put_arg(out, at, b"boolean"),
         4 => message::put_arg(out, at, b"discrete"),
-        5 => message::put_arg(out, at, b"timestamp"),
         _ => message::put_arg(out, at, b"timestamp"),
     }
 }
@@ -304,12 +299,9 @@ fn put_args_options(out: &mut [u8], at: usize, sensor: Sensor) -> usize
 {
     let count = sensor.option_count as u64;
     let mut p = at;
-    let mut k: u64 = 0;
-    while k < count {
+    for k in 0..count {
         let option = sampling::option_at(sensor, k);
-        let text = option.text;
-        p = message::put_arg_prefix(out, p, &text, option.len as usize);
-        k += 1;
+        p = message::put_arg_prefix(out, p, &option.text, option.len as usize);
     }
     p
 }

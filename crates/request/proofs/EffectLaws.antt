@@ -5,13 +5,12 @@ use native.Mathlib.Omega.{arith}
 use mathlib.Core.Path.{◌≡◌, refl, sym, ◌∙◌, ap}
 use mathlib.Core.Bool.{Bool, true, false, cond, not, ◌||◌}
 use mathlib.Core.List.{List, [], ◌∷◌}
-use mathlib.Core.Option.{Option, none, some}
+use Rattle.std.specs.Prelude.{Option, None, Some}
 use lib.Dec.{ltb}
 use lib.ListN.{length}
 use borrow.Author.Tests.{not-false, ne_eqb, ltb-false, le-ltb}
 use Rattle.message.specs.Message.{Message}
 use Rattle.line.specs.declared.Header.{Header}
-use Rattle.line.specs.declared.Parsed.TheVariants as P
 use Rattle.line.specs.Line.{Parse, malformed, message, parse, blank_line}
 use Rattle.line.specs.Answer.{answer as parsed}
 use Rattle.machine.specs.declared.Sheet.{Sheet}
@@ -22,7 +21,6 @@ use Rattle.machine.specs.Sheet.{single, last_client}
 use Rattle.machine.specs.State.{connected}
 use Rattle.machine.specs.Range.{in_range}
 use Rattle.machine.specs.Messages.{refusal_text}
-use Rattle.machine.specs.declared.Found.TheVariants as F
 use Rattle.machine.specs.Requests.{Asks, request_named, hidden, found, asked_for, asked_by, asked, sends_only, answer}
 use Rattle.machine.specs.Declined.{Line, call_of, above_last, client_declined, count_fits, arguments_declined, request_declined, line_declined, line_refusal, action_declined, declined, refusal}
 use Rattle.machine.specs.Machine.{done, line_work, perform, outcome, step}
@@ -37,7 +35,7 @@ use Rattle.request.proofs.GivenLaws.{as_given}
 use Rattle.request.specs.Effects.{line_outcome, line_effect, refused_with, complained, Gives}
 
 -- a request that is not found is hidden
-hides : (b : Bool) (r : Request) → cond b F.Unknown (F.Is r) ≡ F.Unknown → b ≡ true
+hides : (b : Bool) (r : Request) → cond b None (Some r) ≡ None → b ≡ true
 hides true r e = refl
 hides false r e = absurd (let z : ◌≡◌ {A = ℕ} 0 1 = cc in omega arith)
 
@@ -74,16 +72,16 @@ module _ (s : State) (c : ℕ) where
     request_effect_lem f g = rw (ne_eqb m.kind (code "#") f, ne_eqb m.kind (code "!") g)
 
     -- a request that the table, or the profile, does not have
-    pub unknown_effect : found s.sheet.profile (request_named m.name) ≡ F.Unknown → line_effect s c (asked_for (request_named m.name) m) ≡ refused_with s c m 14
+    pub unknown_effect : found s.sheet.profile (request_named m.name) ≡ None → line_effect s c (asked_for (request_named m.name) m) ≡ refused_with s c m 14
     unfolding line_effect line_outcome line_declined line_refusal
     unknown_effect e = go (request_named m.name) e
       where
-        go : (o : Option Request) → found s.sheet.profile o ≡ F.Unknown → line_effect s c (asked_for o m) ≡ refused_with s c m 14
-        go none e = refl
-        go (some r) e = rw (hides (hidden s.sheet.profile r) r e)
+        go : (o : Option Request) → found s.sheet.profile o ≡ None → line_effect s c (asked_for o m) ≡ refused_with s c m 14
+        go None e = refl
+        go (Some r) e = rw (hides (hidden s.sheet.profile r) r e)
 
     -- one that it has
-    module _ (r : Request) (e : request_named m.name ≡ some r) where
+    module _ (r : Request) (e : request_named m.name ≡ Some r) where
       pub declined_effect : {n : ℕ} → n ≡ line_declined s.sheet (Asks r m) → (n ≡ 0 → ⊥) → line_effect s c (asked_for (request_named m.name) m) ≡ refused_with s c m n
       unfolding line_effect line_outcome line_refusal
       declined_effect {n} q h = rw (e, ← q) (go n h)
@@ -98,20 +96,20 @@ module _ (s : State) (c : ℕ) where
 
 -- What the code's answers say of a name and of a line.
 
-pub known_is : (profile : ℕ) (o : Option Request) (r : Request) → found profile o ≡ F.Is r → (o ≡ some r) × (hidden profile r ≡ false)
-known_is profile none r e = absurd (let z : ◌≡◌ {A = ℕ} 0 1 = cc in omega arith)
-known_is profile (some q) r e = go (hidden profile q) refl e
+pub known_is : (profile : ℕ) (o : Option Request) (r : Request) → found profile o ≡ Some r → (o ≡ Some r) × (hidden profile r ≡ false)
+known_is profile None r e = absurd (let z : ◌≡◌ {A = ℕ} 0 1 = cc in omega arith)
+known_is profile (Some q) r e = go (hidden profile q) refl e
   where
-    go : (b : Bool) → hidden profile q ≡ b → cond b F.Unknown (F.Is q) ≡ F.Is r → (some q ≡ some r) × (hidden profile r ≡ false)
+    go : (b : Bool) → hidden profile q ≡ b → cond b None (Some q) ≡ Some r → (Some q ≡ Some r) × (hidden profile r ≡ false)
     go true h f = absurd (let z : ◌≡◌ {A = ℕ} 0 1 = cc in omega arith)
-    go false h f = let same : q ≡ r = cc in (ap some same, rw (← same) h)
+    go false h f = let same : q ≡ r = cc in (ap Some same, rw (← same) h)
 
 -- the rows from 15 on decide of a request that the profile has
 pub shown_row : (sheet : Sheet) (r : Request) (m : Message) → hidden sheet.profile r ≡ false → request_declined sheet r m ≡ line_declined sheet (Asks r m)
 unfolding line_declined
 shown_row sheet r m h = rw h
 
-pub malformed_is : (p : Parse) → parsed p ≡ P.Malformed → p ≡ malformed
+pub malformed_is : (p : Parse) → parsed p ≡ None → p ≡ malformed
 malformed_is malformed e = refl
 malformed_is (message m) e = absurd (let z : ◌≡◌ {A = ℕ} 0 1 = cc in omega arith)
 

@@ -34,16 +34,16 @@ code_word n = go (eqb n 16 || (eqb n 18 || eqb n 23))
     go false = refl
 
 module _ {p q : Output} {c : ℕ} where
-  -- an entry with the text of its row
-  pub entered : (clock n : ℕ) {why : List ℕ} → why ≡ word_of texts (n - 12) → Sent p (to c (log_entry 2 clock (text "katcp") why) ∷ []) q
+  -- an entry with the text of its row, by its number
+  pub entered : (clock n : ℕ) {l : ℕ} {why : List ℕ} → l ≡ n → why ≡ word_of texts (l - 12) → Sent p (to c (log_entry 2 clock (text "katcp") why) ∷ []) q
       → Sent p (to c (log_entry 2 clock (text "katcp") (refusal_text n)) ∷ []) q
-  entered clock n e h = rw (e ∙ text_of n) at h
+  entered clock n d e h = rw (e ∙ (ap (λ k. word_of texts (k - 12)) d ∙ text_of n)) at h
 
 module _ {p q : Output} {c : ℕ} {name : List ℕ} {id : ℕ} where
   -- a reply with the code and the text of its row
-  pub refused_with_lem : {code why : List ℕ} {k : ℕ} (n : ℕ) → k ≡ code_place n → code ≡ word_of codes k → why ≡ word_of texts (n - 12)
+  pub refused_with_lem : {code why : List ℕ} {k l : ℕ} (n : ℕ) → k ≡ code_place n → code ≡ word_of codes k → l ≡ n → why ≡ word_of texts (l - 12)
       → Sent p (to c (message 33 name id (code ∷ why ∷ [])) ∷ []) q → Sent p (to c (refusal_reply (asking name id) n) ∷ []) q
-  refused_with_lem n f d e h = rw (d ∙ ap (word_of codes) f ∙ code_word n, e ∙ text_of n) at h
+  refused_with_lem n f d g e h = rw (d ∙ ap (word_of codes) f ∙ code_word n, e ∙ (ap (λ k. word_of texts (k - 12)) g ∙ text_of n)) at h
 
   -- a request by its name and its id
   pub refused_for : (m : Message) (n : ℕ) → name ≡ m.name → id ≡ m.id → Sent p (to c (refusal_reply (asking name id) n) ∷ []) q → Sent p (to c (refusal_reply m n) ∷ []) q

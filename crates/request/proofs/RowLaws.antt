@@ -1,4 +1,5 @@
 -- The arguments of a line that was read, and the rows that decline them.
+use Rattle.std.specs.Prelude.{Some, None, Option, Result, Ok, Err, IsOk}
 use Prim.Native.Nat.{ℕ, zero, suc, ◌≤◌, ◌<◌}
 use Prim.Native.Char.{code}
 use native.Mathlib.Omega.{arith}
@@ -14,14 +15,11 @@ use Rattle.message.specs.Message.{Message}
 use Rattle.line.specs.declared.Header.{Header}
 use Rattle.line.specs.declared.Meaning.{Meaning}
 use Rattle.line.specs.declared.Meaning.TheVariants.{Byte, Nothing, Unknown}
-use Rattle.line.specs.declared.Copied.{Copied}
-use Rattle.line.specs.declared.Copied.TheVariants.{Whole, Short}
 use Rattle.line.specs.Line.{blank, word_byte, word, words, behind, meant, escape_of, unescape, unescape_next}
 use Rattle.line.specs.Argument as lines
 use Rattle.machine.specs.declared.Sheet.{Sheet}
 use Rattle.machine.specs.declared.Request.{Request}
 use Rattle.machine.specs.declared.Request.TheVariants.{LogLevel}
-use Rattle.machine.specs.declared.Found.{Found}
 use Rattle.machine.specs.Places.{any, twice, Each}
 use Rattle.machine.specs.Sheet.{place_of, not_on_sheet}
 use Rattle.machine.specs.State.{blank_sheet}
@@ -32,8 +30,9 @@ use Rattle.declining.proofs.RowsLaws.{Row, row, row_declines, rows_pass, rows_re
 use Rattle.names.specs.declared.Listed.{Listed}
 use Rattle.names.specs.Scan.{places_of, scanned, places_named}
 use Rattle.names.proofs.SheetPlaces.{named_are, scanned_number, scanned_places, scanned_count}
-use Rattle.strategies.specs.declared.Setting.{Setting}
-use Rattle.strategies.specs.Settings.{setting_of}
+use Rattle.machine.specs.declared.Refusal.{Refusal}
+use Rattle.machine.specs.Refusals.{refusal_number, number_in}
+use Rattle.machine.proofs.RefusalLaws.{declines}
 use Rattle.request.specs.Reading.{message_of, IsRead}
 use Rattle.request.proofs.ReadLaws.{count_is, argument_is}
 
@@ -73,9 +72,9 @@ argument_short : (line : List ℕ) (k : ℕ) → length (lines.argument line k) 
 argument_short line k = omega (arith, (text_short (get_or (behind line) k [])).0, (words_within line).1 k)
 
 -- the length of a text that was copied
-abbrev copied_length : Copied → ℕ
-copied_length (Whole n) = n
-copied_length Short = 2049
+abbrev copied_length : Option ℕ → ℕ
+copied_length (Some n) = n
+copied_length None = 2049
 
 -- A buffer as long as a line may be has room for it.
 module _ (line : List ℕ) (k : ℕ) (into : List ℕ) (h : (length line ≤ 2048) × (length into ≡ 2048)) where
@@ -85,7 +84,7 @@ module _ (line : List ℕ) (k : ℕ) (into : List ℕ) (h : (length line ≤ 204
   room : leb (length own) (length into) ≡ true
   room = le-leb (length own) (length into) (omega (arith, argument_short line k, h.0, h.1))
 
-  module _ {r : Copied} {out : List ℕ} (e : (r ≡ lines.copied own into) × (out ≡ lines.copied_into own into)) where
+  module _ {r : Option ℕ} {out : List ℕ} (e : (r ≡ lines.copied own into) × (out ≡ lines.copied_into own into)) where
     whole : copied_length r ≡ length own
     unfolding lines.copied
     whole = ap copied_length e.0 ∙ rw room
@@ -94,22 +93,38 @@ module _ (line : List ℕ) (k : ℕ) (into : List ℕ) (h : (length line ≤ 204
     unfolding lines.copied_into
     start = e.1 ∙ rw room
 
-    pub copied_never : {A : Type 0} → r ≡ Short → A
+    pub copied_never : {A : Type 0} → r ≡ None → A
     copied_never s = absurd (omega (arith, argument_short line k, h.0, whole, ap copied_length s))
 
-    pub copied_argument : {n : ℕ} → r ≡ Whole n → (take n out ≡ own) × (n ≤ 2048)
+    pub copied_argument : {n : ℕ} → r ≡ Some n → (take n out ≡ own) × (n ≤ 2048)
     copied_argument {n} w =
         let q : n ≡ length own = sym (ap copied_length w) ∙ whole in
         (rw (q, start) (take-append_seam own (drop (length own) into)), omega (arith, argument_short line k, h.0))
 
 -- The rows.
 
+-- what comes to 0 is not declined
+pub accepted : {A : Type 0} (v : Result A Refusal) → number_in v ≡ 0 → IsOk v
+accepted (Ok x) e = refl
+accepted (Err r) e = absurd (declines r e)
+
+-- nor is what a row does not decline
+pub not_declined : {A : Type 0} (v : Result A Refusal) → ((r : Refusal) → v ≡ Err r → ⊥) → number_in v ≡ 0
+not_declined (Ok x) h = refl
+not_declined (Err r) h = absurd (h r refl)
+
 -- the three texts behind the strategy's word
-setting_three : (sheet : Sheet) (js : List ℕ) (k n : ℕ) (ts : List (List ℕ)) → setting_of sheet js k n (get_or ts 2 [] ∷ get_or ts 3 [] ∷ get_or ts 4 [] ∷ []) ≡ setting_of sheet js k n (drop 2 ts)
-unfolding setting_of setting_declined strategy_made parameters_of
+setting_three : (sheet : Sheet) (js : List ℕ) (k n : ℕ) (ts : List (List ℕ)) → setting_declined sheet js k n (get_or ts 2 [] ∷ get_or ts 3 [] ∷ get_or ts 4 [] ∷ []) ≡ setting_declined sheet js k n (drop 2 ts)
+unfolding setting_declined strategy_made parameters_of
 setting_three sheet js k n [] = refl
 setting_three sheet js k n (t ∷ []) = refl
 setting_three sheet js k n (t ∷ u ∷ ts) = refl
+
+strategy_three : (sheet : Sheet) (js : List ℕ) (k : ℕ) (ts : List (List ℕ)) → strategy_made sheet js k (get_or ts 2 [] ∷ get_or ts 3 [] ∷ get_or ts 4 [] ∷ []) ≡ strategy_made sheet js k (drop 2 ts)
+unfolding strategy_made parameters_of
+strategy_three sheet js k [] = refl
+strategy_three sheet js k (t ∷ []) = refl
+strategy_three sheet js k (t ∷ u ∷ ts) = refl
 
 -- r: the level that a line names, level 0 where it names none
 module _ (m : Message) {r : ℕ} (e : r ≡ cond (eqb (length m.args) 0) 0 (level_of (argument m 0))) where
@@ -159,7 +174,7 @@ module _ (line : List ℕ) (head : Header) (h : IsRead line head) where
     given = q ∙ argument_is line head h 0
 
     module _ (ne : head.count ≡ 0 → ⊥) where
-      pub help_named : (profile : ℕ) {f g : Found} → f ≡ found profile (request_named t) → f ≡ g
+      pub help_named : (profile : ℕ) {f g : Option Request} → f ≡ found profile (request_named t) → f ≡ g
           → found_number 23 g ≡ cond (eqb (length m.args) 0) 0 (help_declined profile (request_named (argument m 0)))
       help_named profile e u = rw (some_given ne, ← given) (ap (found_number 23) (sym u ∙ e))
 
@@ -172,49 +187,46 @@ module _ (line : List ℕ) (head : Header) (h : IsRead line head) where
       listed_asked = named_are sheet few t ∙ ap (λ (l : List ℕ). map (place_of sheet) (split l)) given
 
   -- the texts of the next four
-  pub setting_asked : (sheet : Sheet) (js : List ℕ) {w a b c : List ℕ} {k : ℕ} → w ≡ lines.argument line 1 → a ≡ lines.argument line 2 → b ≡ lines.argument line 3 → c ≡ lines.argument line 4
-      → k ≡ strategy_named w → setting_of sheet js k head.count (a ∷ b ∷ c ∷ []) ≡ setting_of sheet js (kind_asked m) (length m.args) (drop 2 m.args)
-  setting_asked sheet js ew ea eb ec ek =
-      rw (ek, ew ∙ argument_is line head h 1, ea ∙ argument_is line head h 2, eb ∙ argument_is line head h 3, ec ∙ argument_is line head h 4, count_is line head h)
-      (setting_three sheet js (kind_asked m) (length m.args) m.args)
+  module _ (sheet : Sheet) (js : List ℕ) {w a b c : List ℕ} {k : ℕ} (ew : w ≡ lines.argument line 1) (ea : a ≡ lines.argument line 2) (eb : b ≡ lines.argument line 3) (ec : c ≡ lines.argument line 4)
+      (ek : k ≡ strategy_named w) where
+    pub setting_asked : setting_declined sheet js k head.count (a ∷ b ∷ c ∷ []) ≡ setting_declined sheet js (kind_asked m) (length m.args) (drop 2 m.args)
+    setting_asked =
+        rw (ek, ew ∙ argument_is line head h 1, ea ∙ argument_is line head h 2, eb ∙ argument_is line head h 3, ec ∙ argument_is line head h 4, count_is line head h)
+        (setting_three sheet js (kind_asked m) (length m.args) m.args)
+
+    pub strategy_asked : strategy_made sheet js k (a ∷ b ∷ c ∷ []) ≡ strategy_made sheet js (kind_asked m) (drop 2 m.args)
+    strategy_asked =
+        rw (ek, ew ∙ argument_is line head h 1, ea ∙ argument_is line head h 2, eb ∙ argument_is line head h 3, ec ∙ argument_is line head h 4)
+        (strategy_three sheet js (kind_asked m) m.args)
 
   -- the places of the comma list, its first argument
-  module _ (sheet : Sheet) (few : sheet.count ≤ 32) {list : Listed} (e : list ≡ scanned sheet (listed sheet m)) where
-    number_is : list.number ≡ places_declined sheet (listed sheet m) 0
-    number_is = ap (λ (l : Listed). l.number) e ∙ scanned_number sheet few (listed sheet m)
+  module _ (sheet : Sheet) (few : sheet.count ≤ 32) {found : Result Listed Refusal} (e : found ≡ scanned sheet (listed sheet m)) where
+    number_is : number_in found ≡ places_declined sheet (listed sheet m) 0
+    number_is = ap number_in e ∙ scanned_number sheet few (listed sheet m)
 
-    pub sampling_first : (list.number ≡ 0 → ⊥) → list.number ≡ sampling_declined sheet m
+    pub sampling_first : {r : Refusal} → found ≡ Err r → refusal_number r ≡ sampling_declined sheet m
     unfolding sampling_declined
-    sampling_first ne = row_declines (list_rows sheet (listed sheet m)) _ number_is ne
+    sampling_first {r} q = row_declines (list_rows sheet (listed sheet m)) _ (ap number_in (sym q) ∙ number_is) (declines r)
 
-    module _ (z : list.number ≡ 0) where
+    module _ {list : Listed} (z : found ≡ Ok list) where
       list_passes : Each (λ (r : Row). r.declines ≡ false) (list_rows sheet (listed sheet m))
-      list_passes = rows_pass (list_rows sheet (listed sheet m)) (omega arith, (omega arith, tt)) (sym number_is ∙ z)
-
-      zero_is : (scanned sheet (listed sheet m)).number ≡ 0
-      zero_is = ap (λ (l : Listed). l.number) (sym e) ∙ z
-
-      places_are : places_of list ≡ listed sheet m
-      places_are = ap places_of e ∙ scanned_places sheet few (listed sheet m) zero_is
-
-      pub places_many : list.count ≡ length (places_of list)
-      places_many = ap (λ (l : Listed). l.count) e ∙ scanned_count sheet few (listed sheet m) zero_is ∙ sym (ap length places_are)
+      list_passes = rows_pass (list_rows sheet (listed sheet m)) (omega arith, (omega arith, tt)) (sym number_is ∙ ap number_in z)
 
       -- a list without a strategy
       pub sampling_alone : {r : ℕ} → head.count ≡ 1 → r ≡ cond (ltb 1 list.count) 15 0 → r ≡ sampling_declined sheet m
       unfolding sampling_declined
       sampling_alone o q =
           q
-          ∙ ap (λ n. cond (ltb 1 n) 15 0) (places_many ∙ ap length places_are)
+          ∙ ap (λ n. cond (ltb 1 n) 15 0) (scanned_count sheet few (listed sheet m) (sym e ∙ z))
           ∙ sym (cond_true (eqb (length m.args) 1) _ _ (eq-eqb (length m.args) 1 (sym (count_is line head h) ∙ o)))
           ∙ sym (rows_rest (list_rows sheet (listed sheet m)) _ list_passes)
 
       -- a list with one
-      pub sampling-set : {r : Setting} → (head.count ≡ 1 → ⊥) → r ≡ setting_of sheet (places_of list) (kind_asked m) (length m.args) (drop 2 m.args) → r.number ≡ sampling_declined sheet m
-      unfolding sampling_declined setting_of
-      sampling-set ne q =
-          ap (λ (s : Setting). s.number) q
-          ∙ ap (λ js. setting_declined sheet js (kind_asked m) (length m.args) (drop 2 m.args)) places_are
+      pub sampling-set : {r : ℕ} {places : List ℕ} → (head.count ≡ 1 → ⊥) → places ≡ places_of list → r ≡ setting_declined sheet places (kind_asked m) (length m.args) (drop 2 m.args) → r ≡ sampling_declined sheet m
+      unfolding sampling_declined
+      sampling-set ne p q =
+          q
+          ∙ ap (λ js. setting_declined sheet js (kind_asked m) (length m.args) (drop 2 m.args)) (p ∙ scanned_places sheet few (listed sheet m) (sym e ∙ z))
           ∙ sym (cond_false (eqb (length m.args) 1) _ _ (ne_eqb (length m.args) 1 (λ o. ne (count_is line head h ∙ o))))
           ∙ sym (rows_rest (list_rows sheet (listed sheet m)) _ list_passes)
 

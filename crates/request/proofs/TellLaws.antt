@@ -1,13 +1,12 @@
 -- Answers of requests that are carried out: the deliveries, under the name and id of the line that asks, and the state.
-use Prim.Native.Nat.{ℕ, zero, suc, ◌-◌, ◌≤◌, ◌<◌}
+use Prim.Native.Nat.{ℕ, zero, suc, ◌≤◌, ◌<◌}
 use Prim.Native.Char.{code}
 use native.Mathlib.Omega.{arith}
 use mathlib.Core.Path.{◌≡◌, refl, ap, sym, ◌∙◌}
 use mathlib.Core.Bool.{Bool, true, false, not, ◌&&◌}
 use mathlib.Core.List.{List, [], ◌∷◌, map}
 use lib.Dec.{eqb}
-use lib.ListN.{length, take, drop, replicate, length-append, length-map}
-use lib.Seq.{length-take-le}
+use lib.ListN.{length, take, drop, replicate, length-map}
 use borrow.Author.Tests.{ne_eqb}
 use Rattle.output.specs.Text.{text}
 use Rattle.output.specs.Output.{output}
@@ -32,14 +31,18 @@ use Rattle.machine.proofs.TestLaws.{cond_not}
 use Rattle.machine.proofs.PlacesLaws.{each_weaker}
 use Rattle.machine.proofs.RangeLaws.{range_out, sensors_of}
 use Rattle.names.specs.declared.Listed.{Listed}
-use Rattle.names.specs.Scan.{listing, places_of, scanned}
-use Rattle.names.proofs.SheetPlaces.{scanned_number, scanned_is, scanned_places, scanned_below}
+use Rattle.std.specs.Prelude.{Result, Ok, IsOk}
+use Rattle.machine.specs.declared.Refusal.{Refusal}
+use Rattle.machine.specs.Refusals.{number_in}
+use Rattle.names.specs.Scan.{places_of, scanned}
+use Rattle.names.proofs.SheetPlaces.{scanned_number, scanned_count, scanned_places, scanned_below}
 use Rattle.replies.specs.Asking.{asking, names_told}
 use Rattle.replies.proofs.ToldLaws.{counted}
 use Rattle.request.specs.Reading.{message_of, IsRead}
 use Rattle.request.specs.Effects.{Gives}
 use Rattle.request.proofs.ReadLaws.{name_is, id_is, count_is, argument_is}
 use Rattle.request.proofs.GivenLaws.{answered_is}
+use Rattle.request.proofs.RowLaws.{accepted}
 
 -- what is collected over places that give the same
 gather_same : {A : Type 0} (f g : ℕ → List A) (n : ℕ) → ((i : ℕ) → i < n → f i ≡ g i) → gather f n ≡ gather g n
@@ -60,31 +63,27 @@ to_every is m =
 -- the sensors that a request asks for, as they are listed
 pub record Asks (sheet : Sheet) (m : Message) (list : Listed) : Type 0 where
   pub are : places_of list ≡ asked_places sheet m
-  pub inside : list.count ≤ length list.places
+  pub many : list.count ≡ length (places_of list)
   pub below : Each (λ j. j < 32) (places_of list)
-
-listing_inside : (js : List ℕ) → (listing 0 js).count ≤ length (listing 0 js).places
-unfolding listing
-listing_inside js = omega (arith, length-append js (replicate (32 - length js) 0))
 
 pub few_sensors : (s : State) → in_range s ≡ true → s.sheet.count ≤ 32
 few_sensors s h = (sensors_of s (range_out s h)).count_most
 
 -- a list that no row declines
-pub asks : (s : State) (m : Message) {list : Listed} → in_range s ≡ true → sensors_declined s.sheet m ≡ 0 → list ≡ scanned s.sheet (asked_places s.sheet m) → Asks s.sheet m list
-asks s m h z e =
-    let js = asked_places s.sheet m in
-    let few = few_sensors s h in
-    let number = scanned_number s.sheet few js ∙ z in
-    let are = ap places_of e ∙ scanned_places s.sheet few js number in
-    record {
-      are = are;
-      inside = rw (e, scanned_is s.sheet few js number) (listing_inside js);
-      below = rw are (each_weaker (λ j. j < s.sheet.count) (λ j. j < 32) (λ j k. omega arith) js (scanned_below s.sheet few js number));
-    }
+module _ (s : State) (m : Message) {found : Result Listed Refusal} (h : in_range s ≡ true) (z : sensors_declined s.sheet m ≡ 0) (e : found ≡ scanned s.sheet (asked_places s.sheet m)) where
+  pub told : IsOk found
+  told = accepted found (ap number_in e ∙ (scanned_number s.sheet (few_sensors s h) (asked_places s.sheet m) ∙ z))
 
-pub list_long : {sheet : Sheet} {m : Message} {list : Listed} → Asks sheet m list → list.count ≡ length (places_of list)
-list_long {list = list} a = sym (length-take-le list.count list.places a.inside)
+  pub asks : {list : Listed} → found ≡ Ok list → Asks s.sheet m list
+  asks q =
+      let js = asked_places s.sheet m in
+      let few = few_sensors s h in
+      let are = scanned_places s.sheet few js (sym e ∙ q) in
+      record {
+        are = are;
+        many = scanned_count s.sheet few js (sym e ∙ q) ∙ ap length (sym are);
+        below = rw are (each_weaker (λ j. j < s.sheet.count) (λ j. j < 32) (λ j k. omega arith) js (scanned_below s.sheet few js (sym e ∙ q)));
+      }
 
 -- the line that asks, and its name as the code takes it
 module _ (line : List ℕ) (head : Header) {name : List ℕ} (h : IsRead line head) (n : name ≡ take head.name (drop 1 line)) where
@@ -108,12 +107,12 @@ module _ (line : List ℕ) (head : Header) {name : List ℕ} (h : IsRead line he
   tells s c f e i a = answered_is a refl refl (as_sent e (ap (counted_answer c (asking name head.id)) i ∙ counted_own c f))
 
   -- an inform on each sensor that is asked for, and the reply that counts them
-  pub tells_asked : {lent mid out : List ℕ} {r : Answer} {at k : ℕ} {list : Listed} (s : State) (c : ℕ) (f : ℕ → ℕ → Message) → Asks s.sheet (message_of line) list
-      → Sent (output lent 0) (all_to c (map (f head.id) (places_of list))) (output mid at)
+  pub tells_asked : {lent mid out : List ℕ} {r : Answer} {at k : ℕ} {list : Listed} {places : List ℕ} (s : State) (c : ℕ) (f : ℕ → ℕ → Message) → Asks s.sheet (message_of line) list
+      → places ≡ places_of list → Sent (output lent 0) (all_to c (map (f head.id) places)) (output mid at)
       → Sent (output mid at) (to c (count_reply (asking name head.id) list.count) ∷ []) (output out k) → r ≡ record { number = 0; written = k; state = s }
       → Gives (done (sends_only s (counted_answer c (message_of line) (map (f (message_of line).id) (asked_places s.sheet (message_of line)))))) lent r out
-  tells_asked {list = list} s c f q e g a =
-      tells s c (λ id. map (f id) (asked_places s.sheet (message_of line))) (counted (map (f head.id) (places_of list)) e g (list_long q ∙ sym (length-map (places_of list) (f head.id)))) (ap (map (f head.id)) q.are) a
+  tells_asked {list = list} {places} s c f q p e g a =
+      tells s c (λ id. map (f id) (asked_places s.sheet (message_of line))) (counted (map (f head.id) places) e g (q.many ∙ (ap length (sym p) ∙ sym (length-map places (f head.id))))) (ap (map (f head.id)) (p ∙ q.are)) a
 
   -- a reply alone
   pub replies : {lent out : List ℕ} {r : Answer} {k : ℕ} (s : State) (c : ℕ) (args : List (List ℕ))

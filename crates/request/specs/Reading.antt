@@ -1,9 +1,8 @@
 -- The message of a line that was read.
-use Rattle.std.specs.Prelude.{ℕ, ◌<◌, ◌≡◌, true, List, []}
+use Rattle.std.specs.Prelude.{ℕ, ◌<◌, ◌≡◌, true, List, [], Some}
 use Rattle.message.specs.Message.{Message}
 use Rattle.message.specs.Message as messages
 use Rattle.line.specs.declared.Header.{Header}
-use Rattle.line.specs.declared.Parsed.TheVariants.{Message as Told}
 use Rattle.line.specs.Line.{Parse, malformed, message, parse}
 use Rattle.line.specs.Answer.{answer}
 use Rattle.machine.specs.declared.State.{State}
@@ -22,7 +21,7 @@ message_of line = message_in (parse line)
 
 -- the line was read, as a message of these numbers
 abbrev pub IsRead : List ℕ → Header → Type 0
-IsRead line head = answer (parse line) ≡ Told head
+IsRead line head = answer (parse line) ≡ Some head
 
 -- a line that was read, from one of the clients, in a state in range
 pub record Heard (s : State) (c : ℕ) (line : List ℕ) (head : Header) : Type 0 where

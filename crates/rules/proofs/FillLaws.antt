@@ -1,7 +1,7 @@
 -- The pass over a text in its array: its bytes, and the zeros behind it.
 use Prim.Native.Nat.{ℕ, suc, ◌+◌, ◌-◌, ◌<◌, ◌≤◌}
 use native.Mathlib.Omega.{arith}
-use mathlib.Core.Path.{◌≡◌, refl, ap, ◌∙◌}
+use mathlib.Core.Path.{◌≡◌, refl}
 use mathlib.Core.Bool.{Bool, true, false, not, ◌&&◌, ◌||◌, and_assoc, or-false}
 use mathlib.Core.List.{List}
 use lib.Dec.{eqb, ltb}
@@ -12,8 +12,6 @@ use Rattle.output.specs.Text.{all}
 use Rattle.texts.proofs.At.{at}
 use Rattle.texts.proofs.PassLaws.{found_on, found_end}
 use Rattle.machine.specs.Sheet.{zero_byte}
-use Rattle.machine.proofs.PlacesLaws.{length-tabulate, get_or-tabulate}
-use Rattle.rules.specs.Texts.{up_to, Counted}
 
 -- n bytes of a kind, then zeros
 abbrev pub filled : (ℕ → Bool) → ℕ → List ℕ → Bool
@@ -56,17 +54,3 @@ module _ {is : ℕ → Bool} {n : ℕ} {bytes : List ℕ} {ok : Bool} {i : ℕ} 
 
   pub filling_end : length bytes ≤ i → ok ≡ filled is n bytes
   filling_end h = found_end ok (filled is (n - i) (drop i bytes)) (filled is n bytes) f.found (rw (drop_of_length-le bytes h, take-nil {A = ℕ} (n - i), drop-nil {A = ℕ} (n - i)))
-
--- an array that the 64 places are enough for
-pub counted : (size : ℕ) {bytes places : List ℕ} → length bytes ≡ size → size ≤ 64 → places ≡ up_to 64 → Counted bytes places
-counted size e l h = record { enough = omega arith; counts = h }
-
--- there are 64 places
-pub places_many : {places : List ℕ} → places ≡ up_to 64 → length places ≡ 64
-unfolding up_to
-places_many e = ap length e ∙ length-tabulate (λ i. i) 64
-
--- beside byte i stands i
-pub place_at : {bytes places : List ℕ} → Counted bytes places → (i : ℕ) → i < length bytes → get_or places i 0 ≡ i
-unfolding up_to
-place_at h i l = rw h.counts (get_or-tabulate (λ i. i) 64 i 0 (omega arith))

@@ -2,10 +2,14 @@
 use Prim.Native.Nat.{ℕ, zero, suc, ◌+◌, ◌*◌, ◌<◌, ◌≤◌}
 use native.Mathlib.Omega.{arith}
 use mathlib.Core.Path.{◌≡◌, refl, sym, ap, ◌∙◌}
-use mathlib.Core.Bool.{Bool, true, false, not}
+use native.Mathlib.Numerals.{add-one}
+use mathlib.Core.Bool.{Bool, true, false, cond, not}
 use mathlib.Core.List.{List}
 use lib.Dec.{eqb, ltb}
-use lib.ListN.{get_or, replicate, get_or-append}
+use lib.ListN.{length, take, get_or, replicate, get_or-append}
+use Rattle.std.specs.List.{list_all, count_by}
+use Rattle.std.proofs.lemmas.List.Folds.{list_all_more}
+use Rattle.std.proofs.lemmas.List.Sums.{count_by_more_yes, count_by_more_no}
 use borrow.Author.Tests.{eqb-true, eq-eqb, ltb-true, ltb-false}
 use Rattle.output.specs.Text.{same}
 use Rattle.output.proofs.TextLaws.{same_true}
@@ -84,16 +88,17 @@ texts_by_keys width count len text key keys w key-at once =
     (λ i j l k e. key-at i (omega arith) ∙ ap key (same_true (text i) (text j) (and_true (eqb (len i) (len j)) (same (text i) (text j)) e).1) ∙ sym (key-at j k))
     once
 
+-- the key of an option
+abbrev pub option_key : List Choice → ℕ → ℕ
+option_key os k = choice_key (get_or os k no_choice).text
+
 -- options whose keys stand once each are apart
 pub choices_by_keys : (count : ℕ) (os : List Choice) → count ≤ 8 → keys_apart (choice_keys os) count ≡ true → choices_apart count os ≡ true
 unfolding choices_apart choice_keys
 choices_by_keys count os w once =
     texts_by_keys 8 count (λ k. (get_or os k no_choice).len) (λ k. (get_or os k no_choice).text) choice_key (choice_keys os) w
-    (λ k l. get_or-append (tabulate key_at 8) (replicate 24 0) 0 k (omega (arith, length-tabulate key_at 8)) ∙ get_or-tabulate key_at 8 k 0 (omega arith))
+    (λ k l. get_or-append (tabulate (option_key os) 8) (replicate 24 0) 0 k (omega (arith, length-tabulate (option_key os) 8)) ∙ get_or-tabulate (option_key os) 8 k 0 (omega arith))
     once
-  where
-    key_at : ℕ → ℕ
-    key_at k = choice_key (get_or os k no_choice).text
 
 -- names whose keys stand once each are apart
 pub names_by_keys : (sheet : Sheet) → sheet.count ≤ 32 → keys_apart (name_keys sheet) sheet.count ≡ true → names_apart sheet ≡ true
@@ -102,3 +107,28 @@ names_by_keys sheet w once =
     texts_by_keys 32 sheet.count (λ j. (sensor_of sheet j).name_len) (λ j. (sensor_of sheet j).name) name_key (name_keys sheet) w
     (λ j l. get_or-tabulate (λ j. name_key (sensor_of sheet j).name) 32 j 0 (omega arith))
     once
+
+-- how often a key stands among the first n
+how_many_count : (keys : List ℕ) (own n : ℕ) → n ≤ length keys → how_many (λ i. eqb (get_or keys i 0) own) n ≡ count_by (λ k. eqb k own) (take n keys)
+unfolding how_many
+how_many_count keys own zero l = refl
+how_many_count keys own (suc n) l = go (eqb (get_or keys n 0) own) refl (how_many_count keys own n (omega arith))
+  where
+    go : (b : Bool) → eqb (get_or keys n 0) own ≡ b → how_many (λ i. eqb (get_or keys i 0) own) n ≡ count_by (λ k. eqb k own) (take n keys)
+        → cond b (how_many (λ i. eqb (get_or keys i 0) own) n + 1) (how_many (λ i. eqb (get_or keys i 0) own) n) ≡ count_by (λ k. eqb k own) (take (suc n) keys)
+    go true e h = rw (h, sym (add-one n)) (sym (count_by_more_yes (λ k. eqb k own) keys n 0 (omega arith) e))
+    go false e h = rw (h, sym (add-one n)) (sym (count_by_more_no (λ k. eqb k own) keys n 0 (omega arith) e))
+
+-- each of the first n keys stands among them once
+pub once_each : (keys : List ℕ) (n : ℕ) (r : Bool) → n ≤ length keys
+    → r ≡ list_all (λ own. eqb (count_by (λ k. eqb k own) (take n keys)) 1) (take n keys) → r ≡ keys_apart keys n
+unfolding keys_apart all_below
+once_each keys n r l h = h ∙ sym (go n l (omega arith))
+  where
+    once : ℕ → Bool
+    once own = eqb (count_by (λ k. eqb k own) (take n keys)) 1
+
+    go : (m : ℕ) → n ≤ length keys → m ≤ n → all_below (λ j. eqb (how_many (λ i. eqb (get_or keys i 0) (get_or keys j 0)) n) 1) m ≡ list_all once (take m keys)
+    go zero l k = refl
+    go (suc m) l k =
+        rw (sym (add-one m), list_all_more once keys m 0 (omega arith), go m l (omega arith), how_many_count keys (get_or keys m 0) n l)

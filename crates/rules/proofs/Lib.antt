@@ -6,3 +6,4 @@ pub mod ApartLaws
 pub mod KeyLaws
 pub mod OptionLaws
 pub mod DistinctLaws
+pub mod FoundLaws

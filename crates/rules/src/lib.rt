@@ -2,11 +2,12 @@
 //! what it was handed. Each is a straight pass with `&` and `|`, since a state is checked in every call.
 #![tactic(auto)]
 
-ghost use Rattle.std.specs.Prelude.{◌≡◌, cond, ◌+◌, ◌<◌, ◌≤◌, min, eqb, length, get_or};
+ghost use Rattle.std.specs.Prelude.{◌≡◌, cond, ◌&&◌, ◌+◌, ◌<◌, ◌≤◌, eqb, leb, length, get_or, count_by};
+ghost use Rattle.std.specs.List.{list_all};
 ghost use Rattle.machine.specs.Places.{all_below};
 ghost use Rattle.machine.specs.Sheet as sheets;
 ghost use Rattle.machine.specs.Range.{client_ok};
-ghost use Rattle.rules.specs.Texts.{in_charset, Counted, up_to};
+ghost use Rattle.rules.specs.Texts.{in_charset, Whole};
 ghost use Rattle.rules.specs.Apart.{alike, choices_apart, names_apart};
 ghost use Rattle.rules.specs.Keys as key;
 ghost use Rattle.rules.specs.Found.{sensors_found};
@@ -40,70 +41,46 @@ pub fn text_fits(bytes: &[u8], least: usize, most: usize, charset: Charset) -> b
     ensures { result ≡ sheets.text_fits least most (in_charset charset) bytes.now }
 {
     let mut ok = true;
-    let mut i = 0;
-    while i < bytes.len() {
-        ok = ok & in_charset(charset, bytes[i]);
-        i += 1;
+    for b in bytes {
+        ok = ok & in_charset(charset, *b);
     }
     (least <= bytes.len()) & ((bytes.len() <= most) & ok)
 }
 
-// The numbers from 0 to 63. A text is passed over by bytes beside them, so that the compiler can take many at a time.
-const PLACES: [u8; machine::DESCRIPTION] = [
-    0, 1, 2, 3, 4, 5, 6, 7, 8, 9, 10, 11, 12, 13, 14, 15, 16, 17, 18, 19, 20, 21, 22, 23, 24, 25,
-    26, 27, 28, 29, 30, 31, 32, 33, 34, 35, 36, 37, 38, 39, 40, 41, 42, 43, 44, 45, 46, 47, 48, 49,
-    50, 51, 52, 53, 54, 55, 56, 57, 58, 59, 60, 61, 62, 63,
-];
-
-// Whether the first `len` bytes of an array are a text of such bytes, `least` to `most` of them, and the others zero.
-fn text_ok(bytes: &[u8], places: &[u8], len: u8, least: u8, most: u8, charset: Charset) -> bool
-    requires { Counted bytes.now places.now }
+// Whether the first `len` bytes of an array are a text of such bytes, `least` to `most` of them, and the others zero. A place is compared as a
+// byte, so that the compiler can take many at a time.
+fn text_ok(bytes: &[u8], len: u8, least: u8, most: u8, charset: Charset) -> bool
+    requires { length bytes.now ≤ 64 }
     ensures { result ≡ sheets.text_ok least most (in_charset charset) len bytes.now }
 {
     let mut ok = true;
-    let mut i = 0;
-    while i < bytes.len() {
-        let b = bytes[i];
-        let fits = in_charset(charset, b);
-        let inside = places[i] < len;
-        ok = ok & ((inside & fits) | (!inside & (b == 0)));
-        i += 1;
+    for (i, b) in bytes.iter().enumerate() {
+        let fits = in_charset(charset, *b);
+        let inside = (i as u8) < len;
+        ok = ok & ((inside & fits) | (!inside & (*b == 0)));
     }
     (least <= len) & ((len <= most) & ok)
+}
+
+// A bound for what is there; else 0.
+fn bound(there: bool, n: u8) -> u8
+    ensures { result ≡ cond there n 0 }
+{
+    if there { n } else { 0 }
 }
 
 // A client's address, or none.
 pub fn client_ok(client: Client) -> bool
     ensures { result ≡ client_ok client }
 {
-    let places = PLACES;
-    let address = client.address;
-    if client.connected {
-        return text_ok(
-            &address,
-            &places,
-            client.address_len,
-            1,
-            machine::LONGEST_ADDRESS,
-            Charset::Graphic,
-        );
-    }
+    let there = client.connected;
     text_ok(
-        &address,
-        &places,
+        &client.address,
         client.address_len,
-        0,
-        0,
+        bound(there, 1),
+        bound(there, machine::LONGEST_ADDRESS),
         Charset::Graphic,
     )
-}
-
-// Whether two texts have the same length, and their arrays the same bytes.
-fn alike_texts(a_len: u8, a: &[u8], b_len: u8, b: &[u8]) -> bool
-    ensures { result ≡ alike a_len a.now b_len b.now }
-{
-    let same = texts::same(a, b);
-    (a_len == b_len) & same
 }
 
 // A limit of an integer or, of any other type, of a float.
@@ -112,10 +89,6 @@ fn limit_ok(kind: u8, n: u64) -> bool
 {
     match kind {
         1 => n < value::INTEGERS,
-        2 => n <= value::MOST_FLOAT,
-        3 => n <= value::MOST_FLOAT,
-        4 => n <= value::MOST_FLOAT,
-        5 => n <= value::MOST_FLOAT,
         _ => n <= value::MOST_FLOAT,
     }
 }
@@ -127,26 +100,26 @@ fn limits_none(l: Limits) -> bool
         & ((l.nominal_min == 0) & ((l.nominal_max == 0) & ((l.warn_min == 0) & (l.warn_max == 0))))
 }
 
+// Two limits of a type, the lower one first.
+fn ordered(kind: u8, low: u64, high: u64) -> bool
+    ensures { result ≡ (sheets.limit_ok kind low && (sheets.limit_ok kind high && leb low high)) }
+{
+    limit_ok(kind, low) & (limit_ok(kind, high) & (low <= high))
+}
+
 fn limits_two(kind: u8, l: Limits) -> bool
     ensures { result ≡ sheets.limits_two kind l }
 {
-    let least = limit_ok(kind, l.nominal_min);
-    let most = limit_ok(kind, l.nominal_max);
-    let order = l.nominal_min <= l.nominal_max;
-    (l.count == 2) & (least & (most & (order & ((l.warn_min == 0) & (l.warn_max == 0)))))
+    let nominal = ordered(kind, l.nominal_min, l.nominal_max);
+    (l.count == 2) & (nominal & ((l.warn_min == 0) & (l.warn_max == 0)))
 }
 
 fn limits_four(kind: u8, l: Limits) -> bool
     ensures { result ≡ sheets.limits_four kind l }
 {
-    let least = limit_ok(kind, l.nominal_min);
-    let most = limit_ok(kind, l.nominal_max);
-    let warn_least = limit_ok(kind, l.warn_min);
-    let warn_most = limit_ok(kind, l.warn_max);
-    let below = l.warn_min <= l.nominal_min;
-    let order = l.nominal_min <= l.nominal_max;
-    let above = l.nominal_max <= l.warn_max;
-    (l.count == 4) & (least & (most & (warn_least & (warn_most & (below & (order & above))))))
+    let lower = ordered(kind, l.warn_min, l.nominal_min);
+    let upper = ordered(kind, l.nominal_max, l.warn_max);
+    (l.count == 4) & (lower & (upper & (l.nominal_min <= l.nominal_max)))
 }
 
 // The limits of a type: none, or for types 1 and 2 two or four.
@@ -159,88 +132,57 @@ fn limits_ok(kind: u8, l: Limits) -> bool
     none | (value::is_measured(kind) & (two | four))
 }
 
-// The bytes: a number of four of them counts by 256.
-const BYTES: u64 = 256;
-
-// A byte as a number that can be added up.
-fn wide(b: u8) -> u64
-    ensures { (result ≡ b) × (result < 256) }
+// A place that holds no option.
+fn choice_none(o: &Choice) -> bool
+    ensures { result ≡ sheets.choice_none o.now }
 {
-    b as u64
+    let mut zero = true;
+    for b in &o.text {
+        zero = zero & (*b == 0);
+    }
+    (o.len == 0) & zero
 }
+
+fn choices_none(options: &[Choice; machine::OPTIONS]) -> bool
+    ensures { result ≡ all_below (λ k. sheets.choice_none (get_or options.now k sheets.no_choice)) 8 }
+{
+    let mut ok = true;
+    for o in options {
+        ok = ok & choice_none(o);
+    }
+    ok
+}
+
+// Place k of `count` options: an option, or nothing.
+fn choice_ok(count: u8, k: usize, o: &Choice) -> bool
+    ensures { result ≡ sheets.choice_ok count k o.now }
+{
+    if k < usize::from(count) {
+        return text_ok(&o.text, o.len, 1, machine::LONGEST_OPTION, Charset::Name);
+    }
+    choice_none(o)
+}
+
+fn choices_ok(count: u8, options: &[Choice; machine::OPTIONS]) -> bool
+    ensures { result ≡ all_below (λ k. sheets.choice_ok count k (get_or options.now k sheets.no_choice)) 8 }
+{
+    let mut ok = true;
+    for (k, o) in options.iter().enumerate() {
+        ok = ok & choice_ok(count, k, o);
+    }
+    ok
+}
+
+// Keys are below.
+const KEYS: u64 = 1 << 32;
 
 // Four bytes as one number.
 fn quarter(text: &[u8], at: usize) -> u64
     requires { at + 4 ≤ length text.now }
     ensures { (result ≡ key.quarter_at text.now at) × (result < 4294967296) }
 {
-    let a = wide(text[at]);
-    let b = wide(text[at + 1]);
-    let c = wide(text[at + 2]);
-    let d = wide(text[at + 3]);
-    a + BYTES * (b + BYTES * (c + BYTES * d))
+    u64::from(u32::from_le_bytes([text[at], text[at + 1], text[at + 2], text[at + 3]]))
 }
-
-// A place that holds no option.
-fn choice_none(o: Choice) -> bool
-    ensures { result ≡ sheets.choice_none o }
-{
-    let text = o.text;
-    let a = quarter(&text, 0);
-    let b = quarter(&text, 4);
-    let c = quarter(&text, 8);
-    let d = quarter(&text, 12);
-    (o.len == 0) & ((a == 0) & ((b == 0) & ((c == 0) & (d == 0))))
-}
-
-fn choices_none(options: [Choice; machine::OPTIONS]) -> bool
-    ensures { result ≡ all_below (λ k. sheets.choice_none (get_or options k sheets.no_choice)) 8 }
-{
-    let mut ok = true;
-    let mut k = 0;
-    while k < machine::OPTIONS {
-        let o = options[k];
-        ok = ok & choice_none(o);
-        k += 1;
-    }
-    ok
-}
-
-// Place k of `count` options: an option, or nothing.
-fn choice_ok(places: &[u8], count: u8, k: usize, o: Choice) -> bool
-    requires { places.now ≡ up_to 64 }
-    ensures { result ≡ sheets.choice_ok count k o }
-{
-    let text = o.text;
-    if k < count as usize {
-        return text_ok(
-            &text,
-            places,
-            o.len,
-            1,
-            machine::LONGEST_OPTION,
-            Charset::Name,
-        );
-    }
-    choice_none(o)
-}
-
-fn choices_ok(places: &[u8], count: u8, options: [Choice; machine::OPTIONS]) -> bool
-    requires { places.now ≡ up_to 64 }
-    ensures { result ≡ all_below (λ k. sheets.choice_ok count k (get_or options k sheets.no_choice)) 8 }
-{
-    let mut ok = true;
-    let mut k = 0;
-    while k < machine::OPTIONS {
-        let o = options[k];
-        ok = ok & choice_ok(places, count, k, o);
-        k += 1;
-    }
-    ok
-}
-
-// Keys are below.
-const KEYS: u64 = 4294967296;
 
 // A key of sixteen bytes: a number by which texts are told apart. Texts of different keys are different.
 fn half_key(text: &[u8], at: usize) -> u64
@@ -254,129 +196,107 @@ fn half_key(text: &[u8], at: usize) -> u64
     a + 3 * b + (5 * c + 7 * d)
 }
 
-fn choice_key(text: [u8; machine::OPTION]) -> u32
-    ensures { result ≡ key.choice_key text }
+fn choice_key(text: &[u8; machine::OPTION]) -> u32
+    ensures { result ≡ key.choice_key text.now }
 {
-    (half_key(&text, 0) % KEYS) as u32
+    (half_key(text, 0) % KEYS) as u32
 }
 
-fn name_key(name: [u8; machine::NAME]) -> u32
-    ensures { result ≡ key.name_key name }
+fn name_key(name: &[u8; machine::NAME]) -> u32
+    ensures { result ≡ key.name_key name.now }
 {
-    let first = half_key(&name, 0);
-    let second = half_key(&name, 16);
+    let first = half_key(name, 0);
+    let second = half_key(name, 16);
     ((first + 11 * second) % KEYS) as u32
 }
 
-fn one_more(n: u32, counts: bool) -> u32
-    requires { n < 4294967295 }
-    ensures { result ≡ cond counts (n + 1) n }
-{
-    if counts { n + 1 } else { n }
-}
-
-// How often a key stands among the first `count`.
-fn times(keys: [u32; machine::SENSORS], count: usize, own: u32) -> u32
-    requires { count ≤ 32 }
-    ensures { result ≡ key.how_many (λ i. eqb (get_or keys i 0) own) count }
+// How often a key stands among some.
+fn times(keys: &[u32], own: u32) -> u32
+    requires { length keys.now ≤ 32 }
+    ensures { result ≡ count_by (λ k. eqb k own) keys.now }
 {
     let mut found: u32 = 0;
-    let mut i: usize = 0;
-    while i < count {
-        found = one_more(found, keys[i] == own);
-        i += 1;
+    for key in keys {
+        found += u32::from(*key == own);
     }
     found
 }
 
-// Whether each of the first `count` keys stands there once.
-fn keys_apart(keys: [u32; machine::SENSORS], count: usize) -> bool
-    requires { count ≤ 32 }
-    ensures { result ≡ key.keys_apart keys count }
+// Whether each of some keys stands there once.
+fn keys_apart(keys: &[u32]) -> bool
+    requires { length keys.now ≤ 32 }
+    ensures { result ≡ list_all (λ own. eqb (count_by (λ k. eqb k own) keys.now) 1) keys.now }
 {
-    let mut ok = true;
-    let mut j: usize = 0;
-    while j < count {
-        ok = ok & (times(keys, count, keys[j]) == 1);
-        j += 1;
-    }
-    ok
+    keys.iter().all(|own| times(keys, *own) == 1)
 }
 
 // The keys of the options; 0 behind them.
-fn choice_keys(options: [Choice; machine::OPTIONS]) -> [u32; machine::SENSORS]
-    ensures { result ≡ key.choice_keys options }
+fn choice_keys(options: &[Choice; machine::OPTIONS]) -> [u32; machine::SENSORS]
+    ensures { result ≡ key.choice_keys options.now }
 {
     let mut keys: [u32; machine::SENSORS] = [0; machine::SENSORS];
-    let mut k: usize = 0;
-    while k < machine::OPTIONS {
-        let o = options[k];
-        let text = o.text;
-        keys[k] = choice_key(text);
-        k += 1;
+    for (k, o) in options.iter().enumerate() {
+        keys[k] = choice_key(&o.text);
     }
     keys
+}
+
+// Whether two texts have the same length, and their arrays the same bytes.
+fn alike_texts(a_len: u8, a: &[u8], b_len: u8, b: &[u8]) -> bool
+    ensures { result ≡ alike a_len a.now b_len b.now }
+{
+    let same = texts::same(a, b);
+    (a_len == b_len) & same
 }
 
 // Every option beside every option.
 const OPTION_PAIRS: usize = machine::OPTIONS * machine::OPTIONS;
 
 // Options compared with each other, whole arrays.
-fn choices_compared(count: u8, options: [Choice; machine::OPTIONS]) -> bool
-    ensures { result ≡ choices_apart count options }
+fn choices_compared(count: u8, options: &[Choice; machine::OPTIONS]) -> bool
+    ensures { result ≡ choices_apart count options.now }
 {
-    let n = count as usize;
+    let n = usize::from(count);
     let mut ok = true;
-    let mut q: usize = 0;
-    while q < OPTION_PAIRS {
+    for q in 0..OPTION_PAIRS {
         let i = q % machine::OPTIONS;
         let j = q / machine::OPTIONS;
-        let one = options[i];
-        let other = options[j];
-        let a = one.text;
-        let b = other.text;
-        let like = alike_texts(one.len, &a, other.len, &b);
+        let one = &options[i];
+        let other = &options[j];
+        let like = alike_texts(one.len, &one.text, other.len, &other.text);
         ok = ok & ((n <= j) | ((j <= i) | !like));
-        q += 1;
     }
     ok
 }
 
 // Whether no two options are alike: by their keys, and compared whole where two keys are the same.
-fn choices_apart(count: u8, options: [Choice; machine::OPTIONS]) -> bool
+fn choices_apart(count: u8, options: &[Choice; machine::OPTIONS]) -> bool
     requires { count ≤ 8 }
-    ensures { result ≡ choices_apart count options }
+    ensures { result ≡ choices_apart count options.now }
 {
-    if keys_apart(choice_keys(options), count as usize) {
+    let keys = choice_keys(options);
+    if keys_apart(&keys[..usize::from(count)]) {
         return true;
     }
     choices_compared(count, options)
 }
 
-fn options_ok(places: &[u8], sensor: Sensor) -> bool
-    requires { places.now ≡ up_to 64 }
-    ensures { result ≡ sheets.options_ok sensor }
+fn options_ok(sensor: &Sensor) -> bool
+    requires { Whole sensor.now.options }
+    ensures { result ≡ sheets.options_ok sensor.now }
 {
-    let kind = sensor.kind;
     let count = sensor.option_count;
-    let options = sensor.options;
-    let discrete = value::is_discrete(kind);
+    let options = &sensor.options;
+    let discrete = value::is_discrete(sensor.kind);
     if count == 0 {
         return !discrete & choices_none(options);
     }
     if machine::MOST_OPTIONS < count {
         return false;
     }
-    let each = choices_ok(places, count, options);
+    let each = choices_ok(count, options);
     let apart = choices_apart(count, options);
     discrete & (each & apart)
-}
-
-// A bound for what is there; else 0.
-fn bound(there: bool, n: u8) -> u8
-    ensures { result ≡ cond there n 0 }
-{
-    if there { n } else { 0 }
 }
 
 // The limits of a sensor that is there, or of none.
@@ -390,34 +310,28 @@ fn limits_at(there: bool, kind: u8, l: Limits) -> bool
 }
 
 // The place of a sensor that is on the sheet, or of none: the same passes with other bounds.
-fn sensor_ok_at(places: &[u8], there: bool, sensor: Sensor) -> bool
-    requires { places.now ≡ up_to 64 }
-    ensures { result ≡ cond there (sheets.sensor_ok sensor) (sheets.sensor_none sensor) }
+fn sensor_ok_at(there: bool, sensor: &Sensor) -> bool
+    requires { Whole sensor.now.options }
+    ensures { result ≡ cond there (sheets.sensor_ok sensor.now) (sheets.sensor_none sensor.now) }
 {
-    let name = sensor.name;
-    let description = sensor.description;
-    let units = sensor.units;
     let kind = sensor.kind;
     let one = bound(there, 1);
     let named = text_ok(
-        &name,
-        places,
+        &sensor.name,
         sensor.name_len,
         one,
         bound(there, machine::LONGEST_NAME),
         Charset::Name,
     );
     let described = text_ok(
-        &description,
-        places,
+        &sensor.description,
         sensor.description_len,
         0,
         bound(there, machine::LONGEST_DESCRIPTION),
         Charset::Printable,
     );
     let measured = text_ok(
-        &units,
-        places,
+        &sensor.units,
         sensor.units_len,
         0,
         bound(there, machine::LONGEST_UNITS),
@@ -425,7 +339,7 @@ fn sensor_ok_at(places: &[u8], there: bool, sensor: Sensor) -> bool
     );
     let typed = (one <= kind) & (kind <= bound(there, 5));
     let limits = limits_at(there, kind, sensor.limits);
-    let options = options_ok(places, sensor);
+    let options = options_ok(sensor);
     named & (described & (measured & (typed & (limits & options))))
 }
 
@@ -433,35 +347,20 @@ fn sensor_ok_at(places: &[u8], there: bool, sensor: Sensor) -> bool
 const SENSOR_PAIRS: usize = machine::SENSORS * machine::SENSORS;
 
 // Names compared with each other, whole arrays.
-fn names_compared(sheet: Sheet) -> bool
-    ensures { result ≡ names_apart sheet }
+fn names_compared(sheet: &Sheet) -> bool
+    ensures { result ≡ names_apart sheet.now }
 {
-    let count = sheet.count as usize;
+    let count = usize::from(sheet.count);
     let mut ok = true;
-    let mut q: usize = 0;
-    while q < SENSOR_PAIRS {
+    for q in 0..SENSOR_PAIRS {
         let i = q % machine::SENSORS;
         let j = q / machine::SENSORS;
-        let one = sheet.sensors[i];
-        let other = sheet.sensors[j];
-        let a = one.name;
-        let b = other.name;
-        let like = alike_texts(one.name_len, &a, other.name_len, &b);
+        let one = &sheet.sensors[i];
+        let other = &sheet.sensors[j];
+        let like = alike_texts(one.name_len, &one.name, other.name_len, &other.name);
         ok = ok & ((count <= j) | ((j <= i) | !like));
-        q += 1;
     }
     ok
-}
-
-// How many sensors of a sheet of that count its array holds.
-fn held(count: u8) -> usize
-    ensures { result ≡ min count 32 }
-{
-    if count < machine::MOST_SENSORS {
-        count as usize
-    } else {
-        machine::SENSORS
-    }
 }
 
 // What one pass over the sensors of a sheet finds: whether they keep their rules, the type of each, and how many options it has.
@@ -477,24 +376,20 @@ pub struct Sensors {
 pub fn sensors_found(sheet: Sheet) -> Sensors
     ensures { result ≡ sensors_found sheet }
 {
-    let count = sheet.count as usize;
-    let places = PLACES;
+    let count = usize::from(sheet.count);
     let mut ok = true;
     let mut kinds: [u8; machine::SENSORS] = [0; machine::SENSORS];
     let mut options: [u8; machine::SENSORS] = [0; machine::SENSORS];
     let mut keys: [u32; machine::SENSORS] = [0; machine::SENSORS];
-    let mut j: usize = 0;
-    while j < machine::SENSORS {
-        let sensor = sheet.sensors[j];
-        let name = sensor.name;
-        ok = ok & sensor_ok_at(&places, j < count, sensor);
+    for (j, sensor) in sheet.sensors.iter().enumerate() {
+        ok = ok & sensor_ok_at(j < count, sensor);
         kinds[j] = sensor.kind;
         options[j] = sensor.option_count;
-        keys[j] = name_key(name);
-        j += 1;
+        keys[j] = name_key(&sensor.name);
     }
-    if !keys_apart(keys, held(sheet.count)) {
-        ok = ok & names_compared(sheet);
+    let held = count.min(machine::SENSORS);
+    if !keys_apart(&keys[..held]) {
+        ok = ok & names_compared(&sheet);
     }
     Sensors {
         ok: (count <= machine::SENSORS) & ok,
@@ -503,40 +398,25 @@ pub fn sensors_found(sheet: Sheet) -> Sensors
     }
 }
 
+// The API text and the build text, of so many bytes each.
+fn titles_fit(sheet: &Sheet, least: u8, most: u8) -> bool
+    ensures { result ≡ (sheets.text_ok least most sheets.graphic sheet.now.api_len sheet.now.api && sheets.text_ok least most sheets.graphic sheet.now.build_len sheet.now.build) }
+{
+    let first = text_ok(&sheet.api, sheet.api_len, least, most, Charset::Graphic);
+    let second = text_ok(&sheet.build, sheet.build_len, least, most, Charset::Graphic);
+    first & second
+}
+
 // The API text and the build text.
 pub fn titles_ok(sheet: Sheet) -> bool
     ensures { result ≡ sheets.titles_ok sheet }
 {
-    let places = PLACES;
-    let api = sheet.api;
-    let build = sheet.build;
-    let first = text_ok(
-        &api,
-        &places,
-        sheet.api_len,
-        1,
-        machine::LONGEST_TITLE,
-        Charset::Graphic,
-    );
-    let second = text_ok(
-        &build,
-        &places,
-        sheet.build_len,
-        1,
-        machine::LONGEST_TITLE,
-        Charset::Graphic,
-    );
-    first & second
+    titles_fit(&sheet, 1, machine::LONGEST_TITLE)
 }
 
 // Both empty, as the blank state has them.
 pub fn titles_none(sheet: Sheet) -> bool
     ensures { result ≡ sheets.titles_none sheet }
 {
-    let places = PLACES;
-    let api = sheet.api;
-    let build = sheet.build;
-    let first = text_ok(&api, &places, sheet.api_len, 0, 0, Charset::Graphic);
-    let second = text_ok(&build, &places, sheet.build_len, 0, 0, Charset::Graphic);
-    first & second
+    titles_fit(&sheet, 0, 0)
 }

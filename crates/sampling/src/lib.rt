@@ -35,7 +35,7 @@ fn is_changed(sensor: Sensor, last: Sample, present: Sample) -> bool
 fn distance(a: u64, b: u64) -> u64
     ensures { result ≡ reports.apart a b }
 {
-    if a <= b { b - a } else { a - b }
+    a.abs_diff(b)
 }
 
 // 1,024 and 1,000,000 in lowest terms.
@@ -48,17 +48,12 @@ const LOWEST_MILLION: u64 = 15625;
 fn is_beyond(sensor: Sensor, difference: u64, units: u64) -> bool
     ensures { result ≡ reports.beyond sensor difference units }
 {
-    let kind = sensor.kind;
-    match kind {
-        1 => difference / output::MILLIONTHS < units,
+    match sensor.kind {
         2 => {
             let whole = LOWEST_1024 * (difference / LOWEST_MILLION);
             let rest = LOWEST_1024 * (difference % LOWEST_MILLION) / LOWEST_MILLION;
             whole + rest < units
         }
-        3 => difference / output::MILLIONTHS < units,
-        4 => difference / output::MILLIONTHS < units,
-        5 => difference / output::MILLIONTHS < units,
         _ => difference / output::MILLIONTHS < units,
     }
 }
@@ -67,15 +62,7 @@ fn is_beyond(sensor: Sensor, difference: u64, units: u64) -> bool
 fn is_valid(x: Sample) -> bool
     ensures { result ≡ reports.is_valid x }
 {
-    let kind = x.kind;
-    match kind {
-        0 => false,
-        1 => true,
-        2 => false,
-        3 => false,
-        4 => false,
-        _ => false,
-    }
+    matches!(x.kind, 1)
 }
 
 // Whether the status changed since the last report, or the value by more than the difference.
@@ -93,7 +80,7 @@ fn has_moved(sensor: Sensor, difference: u64, last: Sample, present: Sample) -> 
 fn since(clock: u64, last: u64) -> u64
     ensures { result ≡ clock - last }
 {
-    if last <= clock { clock - last } else { 0 }
+    clock.saturating_sub(last)
 }
 
 // Whether a subscription reports the sensor's present reading, at a reading or else at a tick.
@@ -135,8 +122,7 @@ pub fn option_at(sensor: Sensor, place: u64) -> Choice
     ensures { take result.len result.text ≡ option_of sensor place }
 {
     if place < OPTIONS {
-        let options = sensor.options;
-        return options[place as usize];
+        return sensor.options[place as usize];
     }
     Choice {
         text: [0; machine::OPTION],
@@ -213,24 +199,19 @@ pub fn deliver_report(
 fn by_reading(cause: Cause) -> bool
     ensures { result ≡ reports.by_reading cause }
 {
-    match cause {
-        Cause::Tick => false,
-        Cause::Reading(_) => true,
-    }
+    matches!(cause, Cause::Reading(_))
 }
 
 // Whether a strategy can report at a reading, or else at a tick, whatever the sensor's reading is.
+#[tactic(auto, unfolding(crate::specs::Visits::can_report))]
 fn can_report(reading: bool, strategy: Strategy) -> bool
     ensures { result ≡ visits.can_report reading strategy }
 {
     match strategy {
         Strategy::None => false,
-        Strategy::Auto => reading,
+        Strategy::Auto | Strategy::Event | Strategy::Differential(_) => reading,
         Strategy::Period(_) => !reading,
-        Strategy::Event => reading,
-        Strategy::Differential(_) => reading,
-        Strategy::EventRate(_, _) => true,
-        Strategy::DifferentialRate(_, _, _) => true,
+        Strategy::EventRate(_, _) | Strategy::DifferentialRate(_, _, _) => true,
     }
 }
 
@@ -247,13 +228,10 @@ fn after_report(clock: u64, present: Sample, pair: Subscription) -> Subscription
     }
 }
 
-// The first place that the visit of a call goes to; 256, behind all places, where it goes to none.
-fn first_place(visiting: bool, cause: Cause) -> usize
-    ensures { result ≡ visits.first_place visiting cause }
+// The first place that a visit goes to; 256, behind all places, where there is no such sensor.
+fn first_place(cause: Cause) -> usize
+    ensures { result ≡ visits.first_place cause }
 {
-    if !visiting {
-        return machine::PAIRS;
-    }
     match cause {
         Cause::Tick => 0,
         Cause::Reading(j) => {
@@ -311,21 +289,17 @@ pub fn with_strategy(
 }
 
 // The answer of a call that visits subscriptions, clients by their number, each in sheet order, once clock and readings are these. A pair is
-// asked for its strategy first, and its sensor only where that can report. A call that is not `visiting` visits none (a row declines it, or its
-// reading is older than the stored one): with the clock and the readings of the state it leaves the state as it was. There is one exit, so that
-// the answer is written once.
+// asked for its strategy first, and its sensor only where that can report.
 pub fn visit(
-    number: u8,
-    visiting: bool,
     s: State,
     cause: Cause,
     clock: u64,
     readings: [Stored; machine::SENSORS],
     out: &mut [u8],
 ) -> Answer
-    ensures number_value { result.number ≡ number }
-    ensures state_value { result.state ≡ (visits.visiting visiting (visits.moment s clock readings) cause).next }
-    ensures sent { Sent (output out.old 0) (visits.visiting visiting (visits.moment s clock readings) cause).sent (output out.new result.written) }
+    ensures number_value { result.number ≡ 0 }
+    ensures state_value { result.state ≡ (reports.visit s.sheet (visits.moment s clock readings) cause).next }
+    ensures sent { Sent (output out.old 0) (reports.visit s.sheet (visits.moment s clock readings) cause).sent (output out.new result.written) }
 {
     let sheet = s.sheet;
     let clients = s.clients;
@@ -333,7 +307,7 @@ pub fn visit(
     let count = sheet.count as usize;
     let reading = by_reading(cause);
     let mut at: usize = 0;
-    let mut p = first_place(visiting, cause);
+    let mut p = first_place(cause);
     while p < machine::PAIRS {
         let c = p / machine::SENSORS;
         let j = p % machine::SENSORS;
@@ -362,7 +336,7 @@ pub fn visit(
         subscriptions: pairs,
     };
     Answer {
-        number: number,
+        number: 0,
         written: at,
         state: next,
     }

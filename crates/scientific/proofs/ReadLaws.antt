@@ -1,4 +1,5 @@
 -- A decimal read: its parts, its exponent, and the tests of the definition.
+use Rattle.std.specs.Prelude.{Some, None, Option}
 use Prim.Native.Nat.{ℕ, ◌+◌, ◌-◌, ◌≤◌, ◌<◌, ◌^◌, min}
 use Prim.Native.Char.{code}
 use native.Mathlib.Nat.{min-eq_left, pow-le-pow_right, eq-zero-or-pos}
@@ -14,8 +15,6 @@ use Rattle.output.specs.Text.{is_digit, all, run, behind_run}
 use Rattle.output.specs.Read.{value_from}
 use Rattle.output.proofs.RunLaws.{run_all, run_whole}
 use Rattle.texts.specs.Class.{begins}
-use Rattle.numbers.specs.declared.Number.{Number}
-use Rattle.numbers.specs.declared.Number.TheVariants.{Is, Bad}
 use Rattle.numbers.proofs.DigitLaws.{value_below}
 use Rattle.scientific.specs.Decimal.{is_minus, behind_sign, behind_point, exponent_digits, exponent_ok, raised, lowered, whole_digits, after_point, fraction_digits, exponent, is_scientific, is_whole, millionths, scientific_ok}
 use Rattle.scientific.specs.Shifted.{above, shifted}
@@ -73,7 +72,7 @@ some_digits (x ∷ w) f = rw (lt-ltb 0 (length (x ∷ w)) (omega arith), le-leb 
 
 -- a number n that is k where x holds and k is not above the most
 judged_is : (x : Bool) (k n : ℕ) (m : Bool) → n ≡ cond x (min k above) above
-    → cond (leb n 2097152000000 && (not m || eqb n 0)) (Is n) Bad ≡ cond (x && (leb k 2097152000000 && (not m || eqb k 0))) (Is k) Bad
+    → cond (leb n 2097152000000 && (not m || eqb n 0)) (Some n) None ≡ cond (x && (leb k 2097152000000 && (not m || eqb k 0))) (Some k) None
 judged_is false k n m e = rw e
 judged_is true k n m e =
     ⊎_elim
@@ -105,12 +104,12 @@ module _ {t w f e : List ℕ} (p : Parts t w f e) where
     pub exponent_good : s ≡ true → exponent_ok e ≡ true
     exponent_good h = ((and-eq-true_iff (leb 1 (length (w ++ f))) (exponent_ok e)).0 (sym es ∙ h)).1
 
-    pub no_form : s ≡ false → Bad ≡ cond (scientific_ok 2097152000000 t) (Is (millionths t)) Bad
+    pub no_form : s ≡ false → None ≡ cond (scientific_ok 2097152000000 t) (Some (millionths t)) None
     unfolding scientific_ok
     no_form h = rw (sym form ∙ h)
 
-    pub judged : s ≡ true → {n : ℕ} {m : Bool} {r : Number} → n ≡ shifted (value_from 0 (w ++ f)) (6 + raised e) (length f + lowered e) → m ≡ is_minus t
-        → r ≡ cond (leb n 2097152000000 && (not m || eqb n 0)) (Is n) Bad → r ≡ cond (scientific_ok 2097152000000 t) (Is (millionths t)) Bad
+    pub judged : s ≡ true → {n : ℕ} {m : Bool} {r : Option ℕ} → n ≡ shifted (value_from 0 (w ++ f)) (6 + raised e) (length f + lowered e) → m ≡ is_minus t
+        → r ≡ cond (leb n 2097152000000 && (not m || eqb n 0)) (Some n) None → r ≡ cond (scientific_ok 2097152000000 t) (Some (millionths t)) None
     unfolding scientific_ok is_whole millionths shifted
     judged h {n} {m} {r} en em er =
         let q : n ≡ cond (is_whole t) (min (millionths t) above) above = rw (en, p.whole_is, p.fraction_is, p.exponent_is) in

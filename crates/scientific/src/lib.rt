@@ -1,13 +1,11 @@
 //! Decimals as C99 reads them, with a sign, a point and an exponent or without, counted exactly in millionths.
 #![tactic(auto)]
 
-ghost use Rattle.std.specs.Prelude.{◌≡◌, true, not, cond, ◌&&◌, ◌||◌, ◌++◌, ◌+◌, ◌-◌, eqb, leb, length};
+ghost use Rattle.std.specs.Prelude.{◌≡◌, true, not, cond, ◌&&◌, ◌||◌, ◌++◌, ◌+◌, eqb, leb, length, Some, None};
 ghost use Rattle.output.specs.Text as text;
 ghost use Rattle.output.specs.Read.{value_from};
 ghost use Rattle.scientific.specs.Decimal as decimal;
 ghost use Rattle.scientific.specs.Shifted as points;
-
-use numbers::Number;
 
 // Digits of a millionth behind the point.
 const PLACES: usize = 6;
@@ -21,34 +19,24 @@ const EXPONENTS: u64 = 1000;
 // The most digits that an exponent has.
 const EXPONENT_DIGITS: usize = 3;
 
-// a - b, 0 where b is the larger.
-fn less(a: usize, b: usize) -> usize
-    ensures { result ≡ a - b }
-{
-    if a < b {
-        return 0;
-    }
-    a - b
-}
-
 // What stands behind a sign, if there is one.
 fn behind_sign(t: &[u8]) -> &[u8]
     ensures { result.now ≡ decimal.behind_sign t.now }
 {
-    if texts::begins(t, b'+') | texts::begins(t, b'-') {
-        return texts::rest(t, 1);
+    match t {
+        [b'+' | b'-', rest @ ..] => rest,
+        _ => t,
     }
-    t
 }
 
 // What stands behind a point, if there is one.
 fn behind_point(t: &[u8]) -> &[u8]
     ensures { result.now ≡ decimal.behind_point t.now }
 {
-    if texts::begins(t, b'.') {
-        return texts::rest(t, 1);
+    match t {
+        [b'.', rest @ ..] => rest,
+        _ => t,
     }
-    t
 }
 
 // The digits of an exponent.
@@ -83,8 +71,8 @@ fn shifted(whole: &[u8], fraction: &[u8], up: usize, down: usize) -> u64
     requires { (text.all text.is_digit whole.now ≡ true) × (text.all text.is_digit fraction.now ≡ true) }
     ensures { result ≡ points.shifted (value_from 0 (whole.now ++ fraction.now)) up (length fraction.now + down) }
 {
-    let right = less(up, down);
-    let keep = less(whole.len(), less(down, up));
+    let right = up.saturating_sub(down);
+    let keep = whole.len().saturating_sub(down.saturating_sub(up));
     let left_behind = numbers::both_value(
         texts::rest(whole, keep),
         texts::rest(fraction, right),
@@ -96,7 +84,7 @@ fn shifted(whole: &[u8], fraction: &[u8], up: usize, down: usize) -> u64
     }
     let high = texts::prefix(whole, keep);
     let low = texts::prefix(fraction, right);
-    let zeros = less(right, fraction.len());
+    let zeros = right.saturating_sub(fraction.len());
     numbers::with_zeros(numbers::both_value(high, low, ABOVE), zeros, ABOVE)
 }
 
@@ -114,18 +102,18 @@ fn millionths(whole: &[u8], fraction: &[u8], exponent: &[u8]) -> u64
 }
 
 // A number that is not above the most, and with a minus only 0.
-fn judged(n: u64, minus: bool) -> Number
-    ensures { result ≡ cond (leb n 2097152000000 && (not minus || eqb n 0)) (Number.Is n) Number.Bad }
+fn judged(n: u64, minus: bool) -> Option<u64>
+    ensures { result ≡ cond (leb n 2097152000000 && (not minus || eqb n 0)) (Some n) None }
 {
     if (n <= numbers::LAST_DIFFERENCE) & (!minus | (n == 0)) {
-        return Number::Is(n);
+        return Some(n);
     }
-    Number::Bad
+    None
 }
 
 // A decimal up to 2,097,152 that is a whole number of millionths, counted in them.
-pub fn read_millionths(t: &[u8]) -> Number
-    ensures { result ≡ cond (decimal.scientific_ok 2097152000000 t.now) (Number.Is (decimal.millionths t.now)) Number.Bad }
+pub fn read_millionths(t: &[u8]) -> Option<u64>
+    ensures { result ≡ cond (decimal.scientific_ok 2097152000000 t.now) (Some (decimal.millionths t.now)) None }
 {
     let unsigned = behind_sign(t);
     let whole = texts::digits(unsigned);
@@ -133,7 +121,7 @@ pub fn read_millionths(t: &[u8]) -> Number
     let fraction = texts::digits(behind);
     let exponent = texts::behind_digits(behind);
     if !is_scientific(whole, fraction, exponent) {
-        return Number::Bad;
+        return None;
     }
     judged(
         millionths(whole, fraction, exponent),

@@ -2,4 +2,3 @@ pub mod BytesLaws
 pub mod ReadingLaws
 pub mod CommandLaws
 pub mod ReplayLaws
-pub mod KindLaws

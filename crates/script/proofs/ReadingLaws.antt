@@ -1,4 +1,5 @@
 -- Numbers within a type, and the doubles of bit patterns.
+use Rattle.std.specs.Prelude.{Some, None, Option}
 use Prim.Native.Nat.{ℕ, ◌%◌, ◌^◌, ◌<◌, ◌≤◌}
 use native.Mathlib.Omega.{arith}
 use mathlib.Core.Path.{◌≡◌, refl, sym, ap, ◌∙◌, subst}
@@ -9,30 +10,28 @@ use borrow.Author.Tests.{leb-true, le-leb, lt-leb, lt-ltb, le-ltb}
 use lib.Dec.{T, leb}
 use lib.Ieee.{Float, nan, inf, fin, binary64, is_nan, of_bits, nan_bits, div}
 use lib.Ieee.Bits.{nan_bits_is, nan_bits_above}
-use Rattle.numbers.specs.declared.Number.{Number}
-use Rattle.numbers.specs.declared.Number.TheVariants.{Is, Bad}
 use Rattle.script.specs.Script.{at_most, number_at, profile_at}
 use Rattle.input.specs.Words.{has_words}
 
-pub at_most_in : {n : Number} (most x : ℕ) → n ≡ Is x → x ≤ most → Is x ≡ at_most most n
+pub at_most_in : {n : Option ℕ} (most x : ℕ) → n ≡ Some x → x ≤ most → Some x ≡ at_most most n
 at_most_in most x e h = rw (e, le-leb x most h)
 
-pub at_most_out : {n : Number} (most x : ℕ) → n ≡ Is x → most < x → Bad ≡ at_most most n
+pub at_most_out : {n : Option ℕ} (most x : ℕ) → n ≡ Some x → most < x → None ≡ at_most most n
 at_most_out most x e h = rw (e, lt-leb x most h)
 
-pub at_most_within : (most : ℕ) (n : Number) (x : ℕ) → at_most most n ≡ Is x → x ≤ most
-at_most_within most Bad x e = let z : ◌≡◌ {A = ℕ} 0 1 = cc in absurd (omega arith)
-at_most_within most (Is y) x e = go (leb y most) refl e
+pub at_most_within : (most : ℕ) (n : Option ℕ) (x : ℕ) → at_most most n ≡ Some x → x ≤ most
+at_most_within most None x e = let z : ◌≡◌ {A = ℕ} 0 1 = cc in absurd (omega arith)
+at_most_within most (Some y) x e = go (leb y most) refl e
   where
-    go : (b : Bool) → leb y most ≡ b → cond b (Is y) Bad ≡ Is x → x ≤ most
+    go : (b : Bool) → leb y most ≡ b → cond b (Some y) None ≡ Some x → x ≤ most
     go true p q = let z : y ≡ x = cc in rw (← z) (leb-true y most p)
     go false p q = let z : ◌≡◌ {A = ℕ} 0 1 = cc in absurd (omega arith)
 
-pub profile_within : (line : List ℕ) (x : ℕ) → profile_at line ≡ Is x → x ≤ 255
+pub profile_within : (line : List ℕ) (x : ℕ) → profile_at line ≡ Some x → x ≤ 255
 unfolding profile_at
 profile_within line x e = go (has_words (text "open") 1 line) e
   where
-    go : (b : Bool) → cond b (Is 0) (at_most 255 (number_at 2 line)) ≡ Is x → x ≤ 255
+    go : (b : Bool) → cond b (Some 0) (at_most 255 (number_at 2 line)) ≡ Some x → x ≤ 255
     go true q = let z : 0 ≡ x = cc in omega arith
     go false q = at_most_within 255 (number_at 2 line) x q
 

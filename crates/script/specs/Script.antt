@@ -6,7 +6,7 @@
 --   reading LENT SENSOR KIND VALUE [TIME]
 --   log LENT LEVEL LOGGER MESSAGE
 --   line LENT CLIENT LINE
-use Rattle.std.specs.Prelude.{ℕ, Bool, true, cond, ◌&&◌, ◌||◌, List, [], ◌∷◌, eqb, leb, ltb, length}
+use Rattle.std.specs.Prelude.{ℕ, Bool, true, cond, ◌&&◌, ◌||◌, List, [], ◌∷◌, eqb, leb, ltb, length, ℤ, Some, None, Option}
 use Prim.Native.Char.{code}
 use Rattle.std.specs.Float.{binary64}
 use Rattle.std.specs.Float.Ieee.{of_bits}
@@ -14,68 +14,59 @@ use Rattle.output.specs.Text.{text, same}
 use Rattle.output.specs.Read.{read_decimal, read_integer}
 use Rattle.value.specs.declared.Reading.{Reading}
 use Rattle.value.specs.declared.Reading.TheVariants.{Integer, Float, Boolean, Option as Choice, Timestamp, Failure, Unreachable, Inactive}
-use Rattle.numbers.specs.declared.Number.{Number}
-use Rattle.numbers.specs.declared.Number.TheVariants.{Is, Bad}
-use Rattle.input.specs.declared.Integer.{Integer as Signed}
-use Rattle.input.specs.declared.Integer.TheVariants as integers
-use Rattle.numbers.specs.Number.{number_of}
 use Rattle.input.specs.Words.{word_at, has_words, integer_of}
-use Rattle.in_hex.specs.declared.Bits.{Bits}
-use Rattle.in_hex.specs.declared.Bits.TheVariants as bits
 use Rattle.in_hex.specs.Hex.{is_bytes, bits_of}
-use Rattle.script.specs.declared.Given.{Given}
-use Rattle.script.specs.declared.Given.TheVariants.{A, Unread}
 use Rattle.script.specs.declared.Command.{Command}
 use Rattle.script.specs.declared.Command.TheVariants as commands
 
 -- Numbers.
 
 -- a number that its argument's type can hold
-abbrev pub at_most : ℕ → Number → Number
-at_most most Bad = Bad
-at_most most (Is n) = cond (leb n most) (Is n) Bad
+abbrev pub at_most : ℕ → Option ℕ → Option ℕ
+at_most most None = None
+at_most most (Some n) = cond (leb n most) (Some n) None
 
 -- the number of word k, of 64 bits
-unfoldable pub number_at : ℕ → List ℕ → Number
-number_at k line = number_of (read_decimal (word_at k line))
+unfoldable pub number_at : ℕ → List ℕ → Option ℕ
+number_at k line = read_decimal (word_at k line)
 
 -- Readings.
 
 -- a reading of a number
-abbrev pub reading_of : (ℕ → Reading) → Number → Given
-reading_of f Bad = Unread
-reading_of f (Is n) = A (f n)
+abbrev pub reading_of : (ℕ → Reading) → Option ℕ → Option Reading
+reading_of f None = None
+reading_of f (Some n) = Some (f n)
 
 -- an integer
-abbrev pub integer_given : Signed → Given
-integer_given integers.Bad = Unread
-integer_given (integers.Is x) = A (Integer x)
+abbrev pub integer_given : Option ℤ → Option Reading
+integer_given None = None
+integer_given (Some x) = Some (Integer x)
 
 -- "for float the 16 hex digits of the double's bits"
-abbrev pub float_of : Bits → Given
-float_of bits.Bad = Unread
-float_of (bits.Are b) = A (Float (of_bits binary64 b))
+abbrev pub float_of : Option ℕ → Option Reading
+float_of None = None
+float_of (Some b) = Some (Float (of_bits binary64 b))
 
 -- "`-` for the last three kinds"
-abbrev pub without_value : Reading → List ℕ → Given
-without_value r t = cond (same t (text "-")) (A r) Unread
+abbrev pub without_value : Reading → List ℕ → Option Reading
+without_value r t = cond (same t (text "-")) (Some r) None
 
 -- a reading that is not valid
-unfoldable pub without_number : List ℕ → List ℕ → Given
+unfoldable pub without_number : List ℕ → List ℕ → Option Reading
 without_number kind t =
     cond (same kind (text "failure")) (without_value Failure t)
     (cond (same kind (text "unreachable")) (without_value Unreachable t)
     (cond (same kind (text "inactive")) (without_value Inactive t)
-    Unread))
+    None))
 
 -- a reading by its kind and its value
-unfoldable pub given : List ℕ → List ℕ → Given
+unfoldable pub given : List ℕ → List ℕ → Option Reading
 given kind t =
     cond (same kind (text "integer")) (integer_given (integer_of (read_integer t)))
     (cond (same kind (text "float")) (float_of (bits_of t))
-    (cond (same kind (text "boolean")) (reading_of Boolean (at_most 255 (number_of (read_decimal t))))
-    (cond (same kind (text "option")) (reading_of Choice (at_most 255 (number_of (read_decimal t))))
-    (cond (same kind (text "timestamp")) (reading_of Timestamp (number_of (read_decimal t)))
+    (cond (same kind (text "boolean")) (reading_of Boolean (at_most 255 (read_decimal t)))
+    (cond (same kind (text "option")) (reading_of Choice (at_most 255 (read_decimal t)))
+    (cond (same kind (text "timestamp")) (reading_of Timestamp (read_decimal t))
     (without_number kind t)))))
 
 -- Calls.
@@ -89,27 +80,27 @@ unfoldable pub is_opening : List ℕ → Bool
 is_opening line = has_words (text "open") 1 line || has_words (text "open") 2 line
 
 -- "PROFILE from (m) on; none is 0", a byte
-unfoldable pub profile_at : List ℕ → Number
-profile_at line = cond (has_words (text "open") 1 line) (Is 0) (at_most 255 (number_at 2 line))
+unfoldable pub profile_at : List ℕ → Option ℕ
+profile_at line = cond (has_words (text "open") 1 line) (Some 0) (at_most 255 (number_at 2 line))
 
 -- an opening under a profile that was read, or none
-abbrev pub opening : Number → Command
-opening Bad = commands.Wrong
-opening (Is profile) = commands.Open profile
+abbrev pub opening : Option ℕ → Command
+opening None = commands.Wrong
+opening (Some profile) = commands.Open profile
 
 -- a reading with its value, and with its time or without
 unfoldable pub is_reading : List ℕ → Bool
 is_reading line = has_words (text "reading") 4 line || has_words (text "reading") 5 line
 
 -- "TIME from (g) on; none is the clock of the state at hand"
-unfoldable pub time_at : ℕ → List ℕ → Number
-time_at clock line = cond (has_words (text "reading") 4 line) (Is clock) (number_at 5 line)
+unfoldable pub time_at : ℕ → List ℕ → Option ℕ
+time_at clock line = cond (has_words (text "reading") 4 line) (Some clock) (number_at 5 line)
 
 -- a reading that was given, with its time, or none
-abbrev pub reading : ℕ → Given → Number → Command
-reading j Unread t = commands.Wrong
-reading j (A r) Bad = commands.Wrong
-reading j (A r) (Is t) = commands.Reading j r t
+abbrev pub reading : ℕ → Option Reading → Option ℕ → Command
+reading j None t = commands.Wrong
+reading j (Some r) None = commands.Wrong
+reading j (Some r) (Some t) = commands.Reading j r t
 
 -- a line whose number behind LENT is n, at the clock of the state at hand
 unfoldable pub called : ℕ → List ℕ → ℕ → Command
@@ -123,10 +114,10 @@ called clock line n =
     commands.Wrong)))))
 
 -- by LENT and the number behind it
-abbrev pub by_numbers : ℕ → List ℕ → Number → Number → Command
-by_numbers clock line Bad m = commands.Wrong
-by_numbers clock line (Is lent) Bad = commands.Wrong
-by_numbers clock line (Is lent) (Is n) = called clock line n
+abbrev pub by_numbers : ℕ → List ℕ → Option ℕ → Option ℕ → Command
+by_numbers clock line None m = commands.Wrong
+by_numbers clock line (Some lent) None = commands.Wrong
+by_numbers clock line (Some lent) (Some n) = called clock line n
 
 -- "Empty lines and lines that begin with `;` are passed over"
 abbrev pub passed : List ℕ → Bool
@@ -142,9 +133,9 @@ command_of clock line =
     (by_numbers clock line (number_at 1 line) (number_at 2 line))))
 
 -- "LENT is the length of the lent output", of a call
-abbrev pub or_none : Number → ℕ
-or_none Bad = 0
-or_none (Is n) = n
+abbrev pub or_none : Option ℕ → ℕ
+or_none None = 0
+or_none (Some n) = n
 
 -- of a line
 unfoldable pub lent_by : List ℕ → ℕ

@@ -11,28 +11,17 @@ ghost use Rattle.machine.specs.Declined as calls;
 ghost use Rattle.machine.specs.Opening.{start_of, opened};
 ghost use Rattle.machine.specs.Machine.{step, answer_of, output_of};
 ghost use Rattle.in_hex.specs.Hex.{bits_of};
-ghost use Rattle.numbers.specs.Number.{number_of};
 ghost use Rattle.input.specs.Words.{word_at, integer_of};
 ghost use Rattle.script.specs.Script as scripts;
 ghost use Rattle.script.specs.Replay as replays;
 
-use in_hex::Bits;
-use input::Integer;
 use machine::{Answer, State};
-use numbers::Number;
 use value::Reading;
 
 // The longest line of a script, and how many bytes its words can stand for.
 const LONGEST_LINE: usize = 65536;
 
 const MOST_BYTES: usize = LONGEST_LINE / 2;
-
-// A reading that a line gives, or that its words are none.
-#[derive(Clone, Copy)]
-pub enum Given {
-    A(Reading),
-    Unread,
-}
 
 // What a line of a script asks, but for the length of the lent output and the bytes of texts, which stand in the line.
 #[derive(Clone, Copy)]
@@ -61,21 +50,15 @@ pub struct Performed {
 
 // Numbers and readings.
 
-fn at_most(most: u64, n: Number) -> Number
+fn at_most(most: u64, n: Option<u64>) -> Option<u64>
     ensures { result ≡ scripts.at_most most n }
 {
-    let Number::Is(x) = n else {
-        return Number::Bad;
-    };
-    if x <= most {
-        Number::Is(x)
-    } else {
-        Number::Bad
-    }
+    let x = n?;
+    if x <= most { Some(x) } else { None }
 }
 
 // The number of word `k`.
-fn number_at(line: &[u8], k: usize) -> Number
+fn number_at(line: &[u8], k: usize) -> Option<u64>
     ensures { result ≡ scripts.number_at k line.now }
 {
     numbers::read_decimal(input::word(line, k))
@@ -91,86 +74,93 @@ fn double_of(bits: u64) -> f64
     f64::from_bits(bits)
 }
 
-fn float_of(t: &[u8]) -> Given
+fn float_of(t: &[u8]) -> Option<Reading>
     ensures { result ≡ scripts.float_of (bits_of t.now) }
 {
-    let Bits::Are(bits) = in_hex::read_bits(t) else {
-        return Given::Unread;
-    };
-    Given::A(Reading::Float(double_of(bits)))
+    let bits = in_hex::read_bits(t)?;
+    Some(Reading::Float(double_of(bits)))
 }
 
-fn integer_of(t: &[u8]) -> Given
+fn integer_of(t: &[u8]) -> Option<Reading>
     ensures { result ≡ scripts.integer_given (integer_of (read_integer t.now)) }
 {
-    let Integer::Is(x) = input::read_integer(t) else {
-        return Given::Unread;
-    };
-    Given::A(Reading::Integer(x))
+    let x = input::read_integer(t)?;
+    Some(Reading::Integer(x))
 }
 
 // A number that a byte holds.
-fn byte_number(t: &[u8]) -> Number
-    ensures { result ≡ scripts.at_most 255 (number_of (read_decimal t.now)) }
+fn byte_number(t: &[u8]) -> Option<u64>
+    ensures { result ≡ scripts.at_most 255 (read_decimal t.now) }
 {
     at_most(255, numbers::read_decimal(t))
 }
 
-fn boolean_of(t: &[u8]) -> Given
-    ensures { result ≡ scripts.reading_of readings.Boolean (scripts.at_most 255 (number_of (read_decimal t.now))) }
+fn boolean_of(t: &[u8]) -> Option<Reading>
+    ensures { result ≡ scripts.reading_of readings.Boolean (scripts.at_most 255 (read_decimal t.now)) }
 {
-    let Number::Is(n) = byte_number(t) else {
-        return Given::Unread;
-    };
-    Given::A(Reading::Boolean(n as u8))
+    let n = byte_number(t)?;
+    Some(Reading::Boolean(n as u8))
 }
 
-fn option_of(t: &[u8]) -> Given
-    ensures { result ≡ scripts.reading_of readings.«Option» (scripts.at_most 255 (number_of (read_decimal t.now))) }
+fn option_of(t: &[u8]) -> Option<Reading>
+    ensures { result ≡ scripts.reading_of readings.«Option» (scripts.at_most 255 (read_decimal t.now)) }
 {
-    let Number::Is(n) = byte_number(t) else {
-        return Given::Unread;
-    };
-    Given::A(Reading::Option(n as u8))
+    let n = byte_number(t)?;
+    Some(Reading::Option(n as u8))
 }
 
-fn timestamp_of(t: &[u8]) -> Given
-    ensures { result ≡ scripts.reading_of readings.Timestamp (number_of (read_decimal t.now)) }
+fn timestamp_of(t: &[u8]) -> Option<Reading>
+    ensures { result ≡ scripts.reading_of readings.Timestamp (read_decimal t.now) }
 {
-    let Number::Is(n) = numbers::read_decimal(t) else {
-        return Given::Unread;
-    };
-    Given::A(Reading::Timestamp(n))
+    let n = numbers::read_decimal(t)?;
+    Some(Reading::Timestamp(n))
 }
 
 // A reading that has no value.
-fn without_value(r: Reading, t: &[u8]) -> Given
+fn without_value(r: Reading, t: &[u8]) -> Option<Reading>
     ensures { result ≡ scripts.without_value r t.now }
 {
-    if texts::same(t, b"-") {
-        return Given::A(r);
-    }
-    Given::Unread
+    if texts::same(t, b"-") { Some(r) } else { None }
 }
 
-// The words of readings.
-const READINGS: [u8; 67] = *b"integer|float|boolean|option|timestamp|failure|unreachable|inactive";
+// A reading of a kind that has no value.
+#[tactic(auto, unfolding(crate::specs::Script::without_number))]
+fn without_number(kind: &[u8], t: &[u8]) -> Option<Reading>
+    ensures { result ≡ scripts.without_number kind.now t.now }
+{
+    if texts::same(kind, b"failure") {
+        return without_value(Reading::Failure, t);
+    }
+    if texts::same(kind, b"unreachable") {
+        return without_value(Reading::Unreachable, t);
+    }
+    if texts::same(kind, b"inactive") {
+        return without_value(Reading::Inactive, t);
+    }
+    None
+}
 
 // The reading of a kind and a value.
-fn reading_of(kind: &[u8], t: &[u8]) -> Given
+#[tactic(auto, unfolding(crate::specs::Script::given))]
+fn reading_of(kind: &[u8], t: &[u8]) -> Option<Reading>
     ensures { result ≡ scripts.given kind.now t.now }
 {
-    match texts::place_of(&READINGS, kind) {
-        0 => integer_of(t),
-        1 => float_of(t),
-        2 => boolean_of(t),
-        3 => option_of(t),
-        4 => timestamp_of(t),
-        5 => without_value(Reading::Failure, t),
-        6 => without_value(Reading::Unreachable, t),
-        7 => without_value(Reading::Inactive, t),
-        _ => Given::Unread,
+    if texts::same(kind, b"integer") {
+        return integer_of(t);
     }
+    if texts::same(kind, b"float") {
+        return float_of(t);
+    }
+    if texts::same(kind, b"boolean") {
+        return boolean_of(t);
+    }
+    if texts::same(kind, b"option") {
+        return option_of(t);
+    }
+    if texts::same(kind, b"timestamp") {
+        return timestamp_of(t);
+    }
+    without_number(kind, t)
 }
 
 // Calls.
@@ -190,11 +180,11 @@ fn is_opening(line: &[u8]) -> bool
 }
 
 // The profile of an opening: 0 where the line has none.
-fn profile_at(line: &[u8]) -> Number
+fn profile_at(line: &[u8]) -> Option<u64>
     ensures { result ≡ scripts.profile_at line.now }
 {
     if input::has_words(line, b"open", 1) {
-        return Number::Is(0);
+        return Some(0);
     }
     at_most(255, number_at(line, 2))
 }
@@ -203,7 +193,7 @@ fn profile_at(line: &[u8]) -> Number
 fn open_command(line: &[u8]) -> Command
     ensures { result ≡ scripts.opening (scripts.profile_at line.now) }
 {
-    let Number::Is(profile) = profile_at(line) else {
+    let Some(profile) = profile_at(line) else {
         return Command::Wrong;
     };
     Command::Open(profile as u8)
@@ -217,11 +207,11 @@ fn is_reading(line: &[u8]) -> bool
 }
 
 // The time of a reading: the clock where the line has none.
-fn time_at(clock: u64, line: &[u8]) -> Number
+fn time_at(clock: u64, line: &[u8]) -> Option<u64>
     ensures { result ≡ scripts.time_at clock line.now }
 {
     if input::has_words(line, b"reading", 4) {
-        return Number::Is(clock);
+        return Some(clock);
     }
     number_at(line, 5)
 }
@@ -230,10 +220,10 @@ fn time_at(clock: u64, line: &[u8]) -> Number
 fn reading_command(clock: u64, line: &[u8], sensor: usize) -> Command
     ensures { result ≡ scripts.reading sensor (scripts.given (word_at 3 line.now) (word_at 4 line.now)) (scripts.time_at clock line.now) }
 {
-    let Given::A(r) = reading_of(input::word(line, 3), input::word(line, 4)) else {
+    let Some(r) = reading_of(input::word(line, 3), input::word(line, 4)) else {
         return Command::Wrong;
     };
-    let Number::Is(time) = time_at(clock, line) else {
+    let Some(time) = time_at(clock, line) else {
         return Command::Wrong;
     };
     Command::Reading(sensor, r, time)
@@ -270,10 +260,7 @@ fn called(clock: u64, line: &[u8], n: u64) -> Command
 fn is_passed(line: &[u8]) -> bool
     ensures { result ≡ scripts.passed line.now }
 {
-    if line.len() == 0 {
-        return true;
-    }
-    line[0] == b';'
+    line.is_empty() || line[0] == b';'
 }
 
 // What a line of at most 65,536 bytes asks of a device with that clock.
@@ -287,10 +274,10 @@ fn command_of(clock: u64, line: &[u8]) -> Command
     if is_opening(line) & has_bytes(line, 1) {
         return open_command(line);
     }
-    let Number::Is(_) = number_at(line, 1) else {
+    let Some(_) = number_at(line, 1) else {
         return Command::Wrong;
     };
-    let Number::Is(n) = number_at(line, 2) else {
+    let Some(n) = number_at(line, 2) else {
         return Command::Wrong;
     };
     called(clock, line, n)
@@ -300,13 +287,24 @@ fn command_of(clock: u64, line: &[u8]) -> Command
 fn lent_len(line: &[u8], len: usize) -> usize
     ensures { result ≡ min (scripts.lent_by line.now) len }
 {
-    let Number::Is(n) = number_at(line, 1) else {
+    let Some(n) = number_at(line, 1) else {
         return 0;
     };
     if n < len as u64 { n as usize } else { len }
 }
 
 // The calls that take bytes of the line.
+
+// An answer that counts no byte.
+fn quiet(number: u8, state: State) -> Answer
+    ensures { result ≡ replays.quiet number state }
+{
+    Answer {
+        number: number,
+        written: 0,
+        state: state,
+    }
+}
 
 fn open_sheet(line: &[u8], profile: u8) -> Answer
     requires { length line.now ≤ 65536 }
@@ -315,7 +313,7 @@ fn open_sheet(line: &[u8], profile: u8) -> Answer
     let mut sheet = [0u8; MOST_BYTES];
     let n = in_hex::put_bytes_of(&mut sheet, 0, input::word(line, 1));
     let opened = device::open(profile, &sheet[..n]);
-    declining::silent(opened.number, opened.state)
+    quiet(opened.number, opened.state)
 }
 
 fn connect(state: State, line: &[u8], client: usize, out: &mut [u8]) -> Answer
@@ -357,8 +355,8 @@ fn carry_out(state: State, line: &[u8], command: Command, out: &mut [u8]) -> Ans
     ensures out_after { out.new ≡ replays.left state out.old (replays.asking line.now command) }
 {
     match command {
-        Command::Passed => declining::silent(0, state),
-        Command::Wrong => declining::silent(0, state),
+        Command::Passed => quiet(0, state),
+        Command::Wrong => quiet(0, state),
         Command::Open(profile) => open_sheet(line, profile),
         Command::Connect(client) => connect(state, line, client, out),
         Command::Disconnect(client) => device::disconnect(state, client, out),
@@ -379,7 +377,7 @@ pub fn perform(state: State, line: &[u8], out: &mut [u8]) -> Performed
     if LONGEST_LINE < line.len() {
         return Performed {
             command: Command::Wrong,
-            answer: declining::silent(0, state),
+            answer: quiet(0, state),
         };
     }
     let command = command_of(state.clock, line);

@@ -1,12 +1,12 @@
 -- What opening answers, by what was read of the bytes.
-use Prim.Native.Nat.{ℕ, ◌-◌, ◌≤◌, ◌<◌}
+use Prim.Native.Nat.{ℕ, ◌≤◌, ◌<◌}
 use native.Mathlib.Omega.{arith}
-use mathlib.Core.Path.{◌≡◌, refl, sym, ap, ◌∙◌}
+use mathlib.Core.Path.{◌≡◌, refl, sym, ◌∙◌}
 use mathlib.Core.Bool.{Bool, true, false, cond, ◌&&◌}
 use mathlib.Core.List.{List, [], ◌∷◌}
-use lib.Dec.{leb}
-use lib.ListN.{length, drop, length-drop}
-use borrow.Author.Tests.{le-leb, lt-leb}
+use lib.Dec.{eqb}
+use lib.ListN.{length}
+use borrow.Author.Tests.{le-leb, lt-leb, ne_eqb}
 use Rattle.machine.proofs.TestLaws.{and_in, test_same, cond_true, cond_false}
 use Rattle.machine.proofs.RangeLaws.{range_out, range_of}
 use Rattle.machine.proofs.OpenedRange.{fresh_range}
@@ -17,9 +17,7 @@ use Rattle.machine.specs.declared.State.{State}
 use Rattle.machine.specs.Sheet.{titles_ok, sensors_ok, sheet_ok}
 use Rattle.machine.specs.State.{fresh}
 use Rattle.machine.specs.Range.{in_range}
-use Rattle.machine.specs.Opening.{taken, sheet_at, start_of, with_profile, not_opened, accepted, opened}
-use Rattle.layout.specs.declared.SheetTaken.{SheetTaken}
-use Rattle.layout.specs.Read.{sheet_of}
+use Rattle.machine.specs.Opening.{broken, taken, sheet_at, start_of, with_profile, not_opened, accepted, opened}
 
 -- a fresh state of a profile is in range just where its sheet keeps its rules
 fresh_in_range : (sheet : Sheet) → sheet.profile ≤ 1 → in_range (fresh sheet) ≡ sheet_ok sheet
@@ -34,20 +32,16 @@ module _ (profile : ℕ) (s : List ℕ) where
   unfolding opened
   open_neither h = rw (lt-leb profile 1 h)
 
-  module _ (l : profile ≤ 1) (r : SheetTaken) (read : sheet_of s r ≡ sheet_at s) where
-    -- the bytes decide
-    by_bytes : opened (start_of profile s) ≡ accepted profile (sheet_of s r)
-    unfolding opened
-    by_bytes = rw (le-leb profile 1 l) (ap (accepted profile) (sym read))
-
+  module _ (l : profile ≤ 1) where
     -- bytes that are no sheet are refused
-    pub open_broken : r.taken ≡ false → opened (start_of profile s) ≡ not_opened 4
-    open_broken t = by_bytes ∙ rw t
+    pub open_broken : broken ≡ sheet_at s → opened (start_of profile s) ≡ not_opened 4
+    unfolding opened
+    open_broken e = rw (le-leb profile 1 l, sym e)
 
-    module _ (t : r.taken ≡ true) (state : State) (new : state ≡ fresh (with_profile r.sheet profile)) (kept : Bool) (k : kept ≡ in_range state) where
+    module _ {sheet : Sheet} {rest : List ℕ} (e : taken sheet rest ≡ sheet_at s) {state : State} (new : state ≡ fresh (with_profile sheet profile)) {kept : Bool} (k : kept ≡ in_range state) where
       -- nothing follows, and the state is in range
       abbrev good : Bool
-      good = leb (length s) r.behind.at && kept
+      good = eqb (length rest) 0 && kept
 
       -- what opening then answers
       abbrev first : Opened
@@ -55,12 +49,12 @@ module _ (profile : ℕ) (s : List ℕ) where
 
       -- else that test decides
       by_rest : opened (start_of profile s) ≡ cond good first (not_opened 4)
-      unfolding sheet_ok titles_ok sensors_ok
-      by_rest = by_bytes ∙ rw t (go (drop r.behind.at s) (length-drop r.behind.at s))
+      unfolding opened sheet_ok titles_ok sensors_ok
+      by_rest = rw (le-leb profile 1 l, sym e) (go rest)
         where
-          go : (rest : List ℕ) → length rest ≡ length s - r.behind.at → accepted profile (taken r.sheet rest) ≡ cond good first (not_opened 4)
-          go [] e = rw (k, new, fresh_in_range (with_profile r.sheet profile) l, le-leb (length s) r.behind.at (omega arith))
-          go (b ∷ rest) e = rw (lt-leb (length s) r.behind.at (omega arith))
+          go : (q : List ℕ) → accepted profile (taken sheet q) ≡ cond (eqb (length q) 0 && kept) first (not_opened 4)
+          go [] = rw (k, new, fresh_in_range (with_profile sheet profile) l)
+          go (b ∷ q) = let n : length (b ∷ q) ≡ 0 → ⊥ = λ z. absurd (omega (arith, z)) in rw (ne_eqb (length (b ∷ q)) 0 n)
 
       -- it holds
       pub open_good : good ≡ true → opened (start_of profile s) ≡ first

@@ -39,13 +39,10 @@ fn fresh_stored(there: bool, kind: u8) -> Stored
 fn fresh_readings(sheet: Sheet) -> [Stored; machine::SENSORS]
     ensures { result ≡ states.fresh_readings sheet }
 {
-    let count = sheet.count as usize;
+    let count = usize::from(sheet.count);
     let mut readings = [no_stored(); machine::SENSORS];
-    let mut j: usize = 0;
-    while j < machine::SENSORS {
-        let sensor = sheet.sensors[j];
+    for (j, sensor) in sheet.sensors.iter().enumerate() {
         readings[j] = fresh_stored(j < count, sensor.kind);
-        j += 1;
     }
     readings
 }
@@ -69,6 +66,7 @@ fn fresh_state(sheet: Sheet) -> State
 }
 
 // The state that a broken sheet gives: halted, with nothing in it.
+// kept: beside `fresh_state`; the two share three fields of seven, and a function that takes the other four is no plainer.
 fn blank_state() -> State
     ensures { result ≡ states.blank }
 {
@@ -105,15 +103,14 @@ pub fn open(profile: u8, sheet: &[u8]) -> Opened
     if 1 < profile {
         return not_opened(31);
     }
-    let r = layout::sheet_at(sheet);
-    if !r.taken {
+    let Some((read, rest)) = layout::sheet_at(sheet) else {
         return not_opened(4);
-    }
-    let mut whole = r.sheet;
-    whole.profile = profile;
-    let last = r.behind;
-    let ended = sheet.len() <= last.at;
-    let state = fresh_state(whole);
+    };
+    let state = fresh_state(Sheet {
+        profile: profile,
+        ..read
+    });
+    let ended = rest.is_empty();
     if ended & in_range(state) {
         return Opened {
             number: 0,
@@ -131,8 +128,7 @@ fn number_fits(kind: u8, options: u8, n: u64) -> bool
         1 => n < value::INTEGERS,
         2 => n <= value::MOST_FLOAT,
         3 => n <= 1,
-        4 => n < options as u64,
-        5 => n <= value::LAST_TIME,
+        4 => n < u64::from(options),
         _ => n <= value::LAST_TIME,
     }
 }
@@ -141,14 +137,9 @@ fn number_fits(kind: u8, options: u8, n: u64) -> bool
 fn sample_ok(kind: u8, options: u8, x: Sample) -> bool
     ensures { result ≡ readings.sample_fits kind options x }
 {
-    let own = x.kind;
-    match own {
-        0 => x.number == value::zero_of(kind),
+    match x.kind {
         1 => number_fits(kind, options, x.number),
-        2 => x.number == value::zero_of(kind),
-        3 => x.number == value::zero_of(kind),
-        4 => x.number == value::zero_of(kind),
-        _ => false,
+        _ => (x.kind <= 4) & (x.number == value::zero_of(kind)),
     }
 }
 
@@ -171,15 +162,12 @@ fn stored_ok(there: bool, clock: u64, kind: u8, options: u8, r: Stored) -> bool
 fn readings_ok(count: u8, clock: u64, sensors: Sensors, stored: [Stored; machine::SENSORS]) -> bool
     ensures { result ≡ all_below (checks.stored_fits count clock sensors stored) 32 }
 {
-    let n = count as usize;
+    let n = usize::from(count);
     let kinds = sensors.kinds;
     let options = sensors.options;
     let mut ok = true;
-    let mut j: usize = 0;
-    while j < machine::SENSORS {
-        let held = stored[j];
-        ok = ok & stored_ok(j < n, clock, kinds[j], options[j], held);
-        j += 1;
+    for (j, held) in stored.iter().enumerate() {
+        ok = ok & stored_ok(j < n, clock, kinds[j], options[j], *held);
     }
     ok
 }
@@ -188,11 +176,8 @@ fn clients_ok(clients: [Client; machine::CLIENTS]) -> bool
     ensures { result ≡ all_below (ranges.client_ok_at clients) 8 }
 {
     let mut ok = true;
-    let mut c: usize = 0;
-    while c < machine::CLIENTS {
-        let client = clients[c];
-        ok = ok & rules::client_ok(client);
-        c += 1;
+    for client in &clients {
+        ok = ok & rules::client_ok(*client);
     }
     ok
 }
@@ -201,11 +186,8 @@ fn no_clients(clients: [Client; machine::CLIENTS]) -> bool
     ensures { result ≡ ranges.no_clients clients }
 {
     let mut ok = true;
-    let mut c: usize = 0;
-    while c < machine::CLIENTS {
-        let client = clients[c];
+    for client in &clients {
         ok = ok & !client.connected;
-        c += 1;
     }
     ok
 }
@@ -215,11 +197,8 @@ fn clients_within(last: usize, clients: [Client; machine::CLIENTS]) -> bool
     ensures { result ≡ ranges.clients_within last clients }
 {
     let mut ok = true;
-    let mut c: usize = 0;
-    while c < machine::CLIENTS {
-        let client = clients[c];
+    for (c, client) in clients.iter().enumerate() {
         ok = ok & ((c <= last) | !client.connected);
-        c += 1;
     }
     ok
 }
@@ -242,9 +221,6 @@ fn difference_ok(kind: u8, d: u64) -> bool
     match kind {
         1 => (d <= 4294967295000000) & (d % output::MILLIONTHS == 0),
         2 => d <= value::MOST_FLOAT_DIFFERENCE,
-        3 => false,
-        4 => false,
-        5 => false,
         _ => false,
     }
 }
@@ -287,25 +263,14 @@ fn pairs_ok(
 ) -> bool
     ensures { result ≡ all_below (checks.pair_fits count clock sensors clients pairs) 256 }
 {
-    let n = count as usize;
+    let n = usize::from(count);
     let kinds = sensors.kinds;
     let options = sensors.options;
     let mut ok = true;
-    let mut p: usize = 0;
-    while p < machine::PAIRS {
-        let c = p / machine::SENSORS;
+    for (p, pair) in pairs.iter().enumerate() {
         let j = p % machine::SENSORS;
-        let client = clients[c];
-        let pair = pairs[p];
-        ok = ok
-            & pair_ok(
-                client.connected & (j < n),
-                clock,
-                kinds[j],
-                options[j],
-                pair,
-            );
-        p += 1;
+        let there = clients[p / machine::SENSORS].connected & (j < n);
+        ok = ok & pair_ok(there, clock, kinds[j], options[j], *pair);
     }
     ok
 }

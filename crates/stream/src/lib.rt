@@ -2,12 +2,14 @@
 //! again; a call that fails is told from the end of the input, and ends the work.
 #![tactic(auto)]
 
-ghost use Rattle.std.specs.Prelude.{ℕ, ◌+◌, ◌<◌, ◌≤◌, ◌≡◌, true, false, [], length, take, drop, negsuc, IfSome, IfErr, IsOk};
+ghost use Rattle.std.specs.Prelude.{ℕ, ◌+◌, ◌<◌, ◌≤◌, ◌≡◌, false, [], length, take, drop, negsuc, IfSome, IfErr, IsOk, IfOk, OnOk, OnErr};
 ghost use Rattle.std.specs.IoError.{raw_os_error};
 ghost use Rattle.std.specs.Io.KnownBytes.{Appends, Consumes, IsAtEnd};
-ghost use Rattle.stream.specs.Filled.{Behind, Filled};
+ghost use Rattle.stream.specs.Filled.{Behind, Filled, empty_at};
 ghost use Rattle.stream.specs.Content.{Within, AllOf};
 ghost use Rattle.stream.specs.Errors.{is_to_repeat};
+ghost use Rattle.stream.specs.declared.ReadFault.TheVariants as faults;
+ghost use Rattle.input.specs.Window.{kept};
 ghost use Rattle.io.specs.Counts.{IsPrefixLen};
 ghost use Rattle.io.specs.Digits.{IsDigitCount, last_digits};
 
@@ -22,26 +24,27 @@ const EINTR: i32 = 4;
 
 const EAGAIN: i32 = 11;
 
-// How many bytes a buffer holds after a read, and whether the read failed.
-#[derive(Clone, Copy)]
-struct Held {
-    to: usize,
-    failed: bool,
-}
+// A write that failed before all bytes were taken.
+#[derive(Clone, Copy, Debug, PartialEq, Eq)]
+pub struct Unwritten;
 
-// The window of the bytes that came, and whether the read failed.
-#[derive(Clone, Copy)]
-pub struct Refilled {
-    pub window: Window,
-    pub failed: bool,
-}
+// A read that failed.
+#[derive(Clone, Copy, Debug, PartialEq, Eq)]
+pub struct Unread;
 
-// An input that was read: so many bytes where they are all of it; more than the buffer has room for; or a read that failed.
-#[derive(Clone, Copy)]
-pub enum Content {
-    Whole(usize),
+// Why the whole of an input is not at hand: it has more bytes than the buffer has room for, or a read failed.
+#[derive(Clone, Copy, Debug, PartialEq, Eq)]
+pub enum ReadFault {
     TooLong,
     Unread,
+}
+
+impl From<Unread> for ReadFault {
+    ghost from_gives = { λ _ fault. fault ≡ faults.Unread };
+
+    fn from(_failed: Unread) -> ReadFault {
+        ReadFault::Unread
+    }
 }
 
 // Whether the call that answered `got` and left this error is to be made again: a signal interrupted it, or its descriptor was not ready.
@@ -73,8 +76,10 @@ pub fn write_all<W: Write>(to: &mut W, bytes: &[u8]) -> usize
     ensures taken { Appends (W.contents to.old) (W.contents to.new) (take result bytes.now) }
 {
     let mut at: usize = 0;
-    let mut turns = u64::MAX;
-    while (at < bytes.len()) & (0 < turns) {
+    for _ in 0..u64::MAX {
+        if at == bytes.len() {
+            return at;
+        }
         let answer = to.write(&bytes[at..]);
         let repeat = again(&answer);
         let taken = answer.unwrap_or(0);
@@ -82,33 +87,38 @@ pub fn write_all<W: Write>(to: &mut W, bytes: &[u8]) -> usize
             return at;
         }
         at += taken;
-        turns -= 1;
     }
     at
 }
 
-// The bytes go to an output: whether all were taken.
-pub fn print<W: Write>(to: &mut W, bytes: &[u8]) -> bool
-    ensures nothing { bytes.now ≡ [] → result ≡ true }
-    ensures all { result ≡ true → Appends (W.contents to.old) (W.contents to.new) bytes.now }
+// The bytes go to an output, all of them.
+pub fn print<W: Write>(to: &mut W, bytes: &[u8]) -> Result<(), Unwritten>
+    ensures nothing { bytes.now ≡ [] → IsOk result }
+    ensures all { OnOk result (Appends (W.contents to.old) (W.contents to.new) bytes.now) }
 {
-    write_all(to, bytes) == bytes.len()
+    if write_all(to, bytes) == bytes.len() {
+        return Ok(());
+    }
+    Err(Unwritten)
 }
 
-// A number goes to an output, in decimal: whether all its digits were taken.
-pub fn print_decimal<W: Write>(to: &mut W, n: u64) -> bool
-    ensures { result ≡ true → (k : ℕ) × IsDigitCount 10 1 n k × Appends (W.contents to.old) (W.contents to.new) (last_digits 10 k n) }
+// A number goes to an output, in decimal, with all its digits.
+pub fn print_decimal<W: Write>(to: &mut W, n: u64) -> Result<(), Unwritten>
+    ensures { OnOk result ((k : ℕ) × IsDigitCount 10 1 n k × Appends (W.contents to.old) (W.contents to.new) (last_digits 10 k n)) }
 {
     let mut digits = [0u8; 20];
     let k = io::decimal(n, &mut digits);
     print(to, &digits[..k])
 }
 
-// What standard output was given goes to its disk behind the last byte, since some disks say only then that they did not take all: whether it is
-// still open and its disk, where it has one, took all.
-pub fn close_output<R: Files, W: AsFd>(rt: &R, out: &W) -> bool {
+// What standard output was given goes to its disk behind the last byte, since some disks say only then that they did not take all: it is still
+// open, and its disk, where it has one, took all.
+pub fn close_output<R: Files, W: AsFd>(rt: &R, out: &W) -> Result<(), Unwritten> {
     let open = out.as_fd().try_clone_to_owned().is_ok();
-    open && is_on_disk(rt, "/dev/stdout")
+    if open && is_on_disk(rt, "/dev/stdout") {
+        return Ok(());
+    }
+    Err(Unwritten)
 }
 
 // Whether the disk took what the file was given. What is no file, or cannot be asked, has no disk that could say otherwise.
@@ -144,70 +154,63 @@ pub fn say_unread<W: Write>(errors: &mut W) {
     complain(errors, b"Standard input cannot be read.\n");
 }
 
-// A read behind the first `to` bytes of the buffer, in at most 2^64 tries. The end of the input, and a buffer that is full, bring no bytes.
-fn read_behind<R: Read>(input: &mut R, buf: &mut [u8], to: usize) -> Held
+// A read behind the first `to` bytes of the buffer, in at most 2^64 tries: how many bytes the buffer then holds. The end of the input, and a buffer
+// that is full, bring no bytes.
+fn read_behind<R: Read>(input: &mut R, buf: &mut [u8], to: usize) -> Result<usize, Unread>
     requires { to ≤ length buf.old }
-    ensures behind { Behind buf.old to buf.new result.to result.failed }
-    ensures bytes { Consumes (R.remaining input.old) (R.remaining input.new) (drop to (take result.to buf.new)) }
-    ensures end { result.failed ≡ false → result.to ≡ to → to < length buf.old → IsAtEnd (R.remaining input.new) }
+    ensures behind { IfOk result (λ end. Behind buf.old to buf.new end) }
+    ensures bytes { IfOk result (λ end. Consumes (R.remaining input.old) (R.remaining input.new) (drop to (take end buf.new))) }
+    ensures end { IfOk result (λ end. end ≡ to → to < length buf.old → IsAtEnd (R.remaining input.new)) }
+    ensures err_behind { OnErr result (Behind buf.old to buf.new to) }
+    ensures err_bytes { OnErr result (Consumes (R.remaining input.old) (R.remaining input.new) []) }
 {
-    let mut came = None;
-    let mut repeat = true;
-    let mut turns = u64::MAX;
-    while repeat & (0 < turns) {
+    for _ in 0..u64::MAX {
         let answer = input.read(&mut buf[to..]);
-        repeat = again(&answer);
-        came = answer.ok();
-        turns -= 1;
+        if !again(&answer) {
+            let Ok(n) = answer else {
+                return Err(Unread);
+            };
+            return Ok(to + n);
+        }
     }
-    let Some(n) = came else {
-        return Held {
-            to: to,
-            failed: true,
-        };
-    };
-    Held {
-        to: to + n,
-        failed: false,
-    }
+    Err(Unread)
 }
 
 // Room is made for more behind the pending bytes, and more is read: the bytes that came are those of the window that is answered, and none where
-// the input has ended, the read failed or there is no room. Where the pending bytes fill the buffer, the first `most` of them are kept.
-pub fn refill<R: Read>(input: &mut R, buf: &mut [u8], w: Window, most: usize) -> Refilled
-    ensures filled { Filled buf.old w most buf.new result.window }
-    ensures to_value { result.failed ≡ true → result.window.to ≡ result.window.from }
-    ensures bytes { Consumes (R.remaining input.old) (R.remaining input.new) (drop result.window.from (take result.window.to buf.new)) }
-    ensures end { result.failed ≡ false → result.window.to ≡ result.window.from → result.window.from < length buf.old → IsAtEnd (R.remaining input.new) }
+// the input has ended or there is no room. Where the pending bytes fill the buffer, the first `most` of them are kept.
+pub fn refill<R: Read>(
+    input: &mut R,
+    buf: &mut [u8],
+    w: Window,
+    most: usize,
+) -> Result<Window, Unread>
+    ensures filled { IfOk result (λ more. Filled buf.old w most buf.new more) }
+    ensures bytes { IfOk result (λ more. Consumes (R.remaining input.old) (R.remaining input.new) (drop more.from (take more.to buf.new))) }
+    ensures end { IfOk result (λ more. more.to ≡ more.from → more.from < length buf.old → IsAtEnd (R.remaining input.new)) }
+    ensures err_filled { OnErr result (Filled buf.old w most buf.new (empty_at (length (kept buf.old w most)))) }
+    ensures err_bytes { OnErr result (Consumes (R.remaining input.old) (R.remaining input.new) []) }
 {
     let rest = input::make_room(buf, w, most);
     let from = rest.to;
-    let held = read_behind(input, buf, from);
-    let to = held.to;
-    Refilled {
-        window: Window { from: from, to: to },
-        failed: held.failed,
-    }
+    let to = read_behind(input, buf, from)?;
+    Ok(Window { from: from, to: to })
 }
 
-// Reads to the end of the input, which is known where the buffer has room left.
-pub fn read_all<R: Read>(input: &mut R, buf: &mut [u8]) -> Content
+// Reads to the end of the input, which is known where the buffer has room left: how many bytes it has.
+pub fn read_all<R: Read>(input: &mut R, buf: &mut [u8]) -> Result<usize, ReadFault>
     ensures within { Within buf.new result }
     ensures all { AllOf (R.remaining input.old) buf.new result }
 {
     let mut from: usize = 0;
-    let mut held = read_behind(input, buf, 0);
-    while from < held.to {
-        from = held.to;
-        held = read_behind(input, buf, from);
-    }
-    if held.failed {
-        return Content::Unread;
+    let mut to = read_behind(input, buf, 0)?;
+    while from < to {
+        from = to;
+        to = read_behind(input, buf, from)?;
     }
     if from < buf.len() {
-        return Content::Whole(from);
+        return Ok(from);
     }
-    Content::TooLong
+    Err(ReadFault::TooLong)
 }
 
 // All of standard input: how many bytes it has. Where it cannot be read or the buffer is too short for it, a sentence says so, and there are none.
@@ -215,13 +218,12 @@ pub fn read_input<R: Read, W: Write>(input: &mut R, errors: &mut W, buf: &mut [u
     ensures within { IsPrefixLen result buf.new }
     ensures all { 0 < result → IfSome (R.remaining input.old) (λ xs. xs ≡ take result buf.new) }
 {
-    let content = read_all(input, buf);
-    match content {
-        Content::Whole(n) => {
+    match read_all(input, buf) {
+        Ok(n) => {
             return n;
         }
-        Content::TooLong => complain(errors, b"Standard input is too long.\n"),
-        Content::Unread => say_unread(errors),
+        Err(ReadFault::TooLong) => complain(errors, b"Standard input is too long.\n"),
+        Err(ReadFault::Unread) => say_unread(errors),
     }
     0
 }

@@ -4,12 +4,13 @@
 
 use input::Window;
 use std::fs::File;
-use std::io::{Error, Read, Result, Write};
+use std::io;
+use std::io::{Error, Read, Write};
 use std::rt::{Files, HostRuntime};
-use stream::Content;
+use stream::{ReadFault, Unwritten};
 
 // A line: what was done, a number and what it counts.
-fn show_count<W: Write>(to: &mut W, what: &[u8], n: usize, unit: &[u8]) -> bool {
+fn show_count<W: Write>(to: &mut W, what: &[u8], n: usize, unit: &[u8]) -> Result<(), Unwritten> {
     let mut line = [0u8; 128];
     let p = output::put_bytes(&mut line, 0, what);
     let p = output::put_decimal(&mut line, p, n as u64);
@@ -22,40 +23,59 @@ fn show_count<W: Write>(to: &mut W, what: &[u8], n: usize, unit: &[u8]) -> bool 
 struct Closed;
 
 impl Read for Closed {
-    fn read(&mut self, _buf: &mut [u8]) -> Result<usize> {
+    fn read(&mut self, _buf: &mut [u8]) -> io::Result<usize> {
         Err(Error::from_raw_os_error(9))
     }
 }
 
 impl Write for Closed {
-    fn write(&mut self, _buf: &[u8]) -> Result<usize> {
+    fn write(&mut self, _buf: &[u8]) -> io::Result<usize> {
         Err(Error::from_raw_os_error(9))
     }
 
-    fn flush(&mut self) -> Result<()> {
+    fn flush(&mut self) -> io::Result<()> {
         Ok(())
     }
 }
 
 // How many bytes of a word a descriptor takes.
-fn show_write<W: Write, F: Write>(to: &mut W, what: &[u8], file: &mut F, word: &[u8]) -> bool {
+fn show_write<W: Write, F: Write>(
+    to: &mut W,
+    what: &[u8],
+    file: &mut F,
+    word: &[u8],
+) -> Result<(), Unwritten> {
     let taken = stream::write_all(file, word);
     show_count(to, what, taken, b" bytes taken\n")
 }
 
-// What a descriptor holds, through a buffer of 64 bytes.
-fn show_read<W: Write, F: Read>(to: &mut W, what: &[u8], file: &mut F) -> bool {
-    let mut buf = [0u8; 64];
-    let content = stream::read_all(file, &mut buf);
-    match content {
-        Content::Whole(n) => show_count(to, what, n, b" bytes and the end\n"),
-        Content::TooLong => stream::print(to, what)
-            && stream::print(to, b"longer than the buffer\n"),
-        Content::Unread => stream::print(to, what) && stream::print(to, b"the read failed\n"),
+// Why what a descriptor holds is not known.
+fn reason(fault: ReadFault) -> &'static [u8] {
+    match fault {
+        ReadFault::TooLong => b"longer than the buffer\n",
+        ReadFault::Unread => b"the read failed\n",
     }
 }
 
-fn show_file<R: Files, W: Write>(rt: &R, to: &mut W, what: &[u8], path: &str) -> bool {
+// What a descriptor holds, through a buffer of 64 bytes.
+fn show_read<W: Write, F: Read>(to: &mut W, what: &[u8], file: &mut F) -> Result<(), Unwritten> {
+    let mut buf = [0u8; 64];
+    let content = stream::read_all(file, &mut buf);
+    match content {
+        Ok(n) => show_count(to, what, n, b" bytes and the end\n"),
+        Err(fault) => {
+            stream::print(to, what)?;
+            stream::print(to, reason(fault))
+        }
+    }
+}
+
+fn show_file<R: Files, W: Write>(
+    rt: &R,
+    to: &mut W,
+    what: &[u8],
+    path: &str,
+) -> Result<(), Unwritten> {
     match File::open(rt, path) {
         Ok(mut file) => show_read(to, what, &mut file),
         Err(_) => show_read(to, what, &mut Closed),
@@ -63,36 +83,36 @@ fn show_file<R: Files, W: Write>(rt: &R, to: &mut W, what: &[u8], path: &str) ->
 }
 
 // A descriptor that is open for reading only, and one that is not open.
-fn show_writes_to<W: Write, F: Write>(to: &mut W, file: &mut F) -> bool {
-    show_write(to, b"write of nothing: ", file, b"")
-        && show_write(
-            to,
-            b"write to a file that is open for reading: ",
-            file,
-            b"word\n",
-        )
-        && show_write(
-            to,
-            b"write to a descriptor that is closed: ",
-            &mut Closed,
-            b"word\n",
-        )
+fn show_writes_to<W: Write, F: Write>(to: &mut W, file: &mut F) -> Result<(), Unwritten> {
+    show_write(to, b"write of nothing: ", file, b"")?;
+    show_write(
+        to,
+        b"write to a file that is open for reading: ",
+        file,
+        b"word\n",
+    )?;
+    show_write(
+        to,
+        b"write to a descriptor that is closed: ",
+        &mut Closed,
+        b"word\n",
+    )
 }
 
-fn show_writes<R: Files, W: Write>(rt: &R, to: &mut W) -> bool {
+fn show_writes<R: Files, W: Write>(rt: &R, to: &mut W) -> Result<(), Unwritten> {
     match File::open(rt, "short") {
         Ok(mut file) => show_writes_to(to, &mut file),
         Err(_) => show_writes_to(to, &mut Closed),
     }
 }
 
-fn show_reads<R: Files, W: Write>(rt: &R, to: &mut W) -> bool {
-    show_file(rt, to, b"read of an empty file: ", "empty")
-        && show_file(rt, to, b"read of a file of 63 bytes: ", "short")
-        && show_file(rt, to, b"read of a file of 64 bytes: ", "full")
-        && show_file(rt, to, b"read of a file of 200 bytes: ", "long")
-        && show_file(rt, to, b"read of a directory: ", ".")
-        && show_read(to, b"read of a descriptor that is closed: ", &mut Closed)
+fn show_reads<R: Files, W: Write>(rt: &R, to: &mut W) -> Result<(), Unwritten> {
+    show_file(rt, to, b"read of an empty file: ", "empty")?;
+    show_file(rt, to, b"read of a file of 63 bytes: ", "short")?;
+    show_file(rt, to, b"read of a file of 64 bytes: ", "full")?;
+    show_file(rt, to, b"read of a file of 200 bytes: ", "long")?;
+    show_file(rt, to, b"read of a directory: ", ".")?;
+    show_read(to, b"read of a descriptor that is closed: ", &mut Closed)
 }
 
 // Standard input to standard output, until it ends or one of the two fails.
@@ -101,32 +121,42 @@ fn copy_input<R: Read, W: Write, E: Write>(
     to: &mut W,
     errors: &mut E,
     buf: &mut [u8],
-) -> bool {
+) -> Result<(), Unwritten> {
     let mut more = stream::refill(input, buf, Window { from: 0, to: 0 }, 0);
-    let mut turns = u64::MAX;
-    while (more.window.from < more.window.to) & (0 < turns) {
-        let end = more.window.to;
-        if !stream::print(to, &buf[..end]) {
-            return false;
+    for _ in 0..u64::MAX {
+        let Ok(came) = more else {
+            break;
+        };
+        if came.to <= came.from {
+            break;
         }
+        stream::print(to, &buf[..came.to])?;
         more = stream::refill(input, buf, Window { from: 0, to: 0 }, 0);
-        turns -= 1;
     }
-    if more.failed {
+    if more.is_err() {
         stream::say_unread(errors);
-        return true;
+        return Ok(());
     }
     stream::print(to, b"standard input ended\n")
+}
+
+// All of it, in order, up to the first print that fails.
+fn show_all<R: Files, I: Read, W: Write, E: Write>(
+    rt: &R,
+    input: &mut I,
+    to: &mut W,
+    errors: &mut E,
+) -> Result<(), Unwritten> {
+    show_writes(rt, to)?;
+    show_reads(rt, to)?;
+    let mut buf = [0u8; 16];
+    copy_input(input, to, errors, &mut buf)
 }
 
 fn main(rt: HostRuntime) {
     let to = &mut rt.stdout();
     let errors = &mut rt.stderr();
-    let mut buf = [0u8; 16];
-    if !(show_writes(&rt, to)
-        && show_reads(&rt, to)
-        && copy_input(&mut rt.stdin(), to, errors, &mut buf))
-    {
+    if show_all(&rt, &mut rt.stdin(), to, errors).is_err() {
         stream::say_unwritten(errors);
     }
 }

@@ -5,26 +5,24 @@ use native.Mathlib.Omega.{arith}
 use mathlib.Core.Path.{◌≡◌, refl}
 use mathlib.Core.Bool.{Bool, false, not, cond, ◌&&◌}
 use mathlib.Core.List.{List, [], ◌∷◌}
-use mathlib.Core.Option.{Option, none, some}
+use Rattle.std.specs.Prelude.{Option, None, Some}
 use borrow.Author.Tests.{eq-eqb, ne_eqb}
 use lib.ListN.{length, take, drop, get_or}
 use Rattle.output.specs.Text.{text, same}
 use Rattle.texts.proofs.At.{to_end}
-use Rattle.numbers.specs.declared.Number.TheVariants.{Is, Bad}
-use Rattle.numbers.specs.Number.{number_of}
 use Rattle.input.specs.Words.{is_natural}
 use Rattle.terminal.specs.Entry.{natural, is_whole}
 
 -- a decimal that is too large, or none
-pub natural_bad : (t : List ℕ) (o : Option ℕ) (b : Bool) → Bad ≡ number_of o → is_natural t ≡ b → cond b (Is (2 ^ 64 - 1)) Bad ≡ natural t o
+pub natural_bad : (t : List ℕ) (o : Option ℕ) (b : Bool) → None ≡ o → is_natural t ≡ b → cond b (Some (2 ^ 64 - 1)) None ≡ natural t o
 unfolding natural
-natural_bad t none b e h = rw h
-natural_bad t (some n) b e h = let z : ◌≡◌ {A = ℕ} 0 1 = cc in absurd (omega arith)
+natural_bad t None b e h = rw h
+natural_bad t (Some n) b e h = let z : ◌≡◌ {A = ℕ} 0 1 = cc in absurd (omega arith)
 
-pub natural_is : (t : List ℕ) (o : Option ℕ) (n : ℕ) → Is n ≡ number_of o → Is n ≡ natural t o
+pub natural_is : (t : List ℕ) (o : Option ℕ) (n : ℕ) → Some n ≡ o → Some n ≡ natural t o
 unfolding natural
-natural_is t none n e = let z : ◌≡◌ {A = ℕ} 0 1 = cc in absurd (omega arith)
-natural_is t (some m) n e = e
+natural_is t None n e = let z : ◌≡◌ {A = ℕ} 0 1 = cc in absurd (omega arith)
+natural_is t (Some m) n e = e
 
 -- an integer, by its first byte
 pub whole_none : (t : List ℕ) → length t ≡ 0 → false ≡ is_whole t

@@ -1,26 +1,21 @@
 -- Document 01, "Edges and a session": "Input `@ n` ticks to n ms, `= s v` gives sensor s (from 0) integer v; other lines, ill-formed ones of
 -- these two kinds included, go to the server as client 0's lines." n, s and v are decimals, without leading zeros, v with a minus or without.
-use Rattle.std.specs.Prelude.{ℕ, ◌-◌, ◌^◌, Bool, false, not, cond, ◌&&◌, List, [], ◌∷◌, eqb, ltb, length}
+use Rattle.std.specs.Prelude.{ℕ, ◌-◌, ◌^◌, Bool, false, not, cond, ◌&&◌, List, [], ◌∷◌, eqb, ltb, length, ℤ, Some, None, Option}
 use Prim.Native.Char.{code}
-use Rattle.std.proofs.Math.Option.{Option, none, some}
 use Rattle.output.specs.Text.{text, same}
 use Rattle.output.specs.Read.{read_decimal, read_integer}
 use Rattle.value.specs.declared.Reading.{Reading as Given}
 use Rattle.value.specs.declared.Reading.TheVariants.{Integer, Boolean}
 use Rattle.machine.specs.Declined.{Action}
 use Rattle.machine.specs.Declined as calls
-use Rattle.numbers.specs.declared.Number.{Number}
-use Rattle.numbers.specs.declared.Number.TheVariants.{Is, Bad}
-use Rattle.input.specs.declared.Integer.{Integer as Signed}
-use Rattle.input.specs.declared.Integer.TheVariants as integers
 use Rattle.input.specs.Words.{word_at, has_words, is_natural, integer_of}
 use Rattle.terminal.specs.declared.Entry.{Entry}
 use Rattle.terminal.specs.declared.Entry.TheVariants.{Tick, Reading, Line}
 
 -- a decimal; the largest number of 64 bits where it is larger: that is above the limit of a tick, and no sensor's place
-unfoldable pub natural : List ℕ → Option ℕ → Number
-natural t none = cond (is_natural t) (Is (2 ^ 64 - 1)) Bad
-natural t (some n) = Is n
+unfoldable pub natural : List ℕ → Option ℕ → Option ℕ
+natural t None = cond (is_natural t) (Some (2 ^ 64 - 1)) None
+natural t (Some n) = Some n
 
 -- an integer of any size: digits without leading zeros, behind a minus or not, and not `-0`
 unfoldable pub is_whole : List ℕ → Bool
@@ -28,19 +23,19 @@ is_whole [] = false
 is_whole (b ∷ s) = cond (eqb b (code "-")) (is_natural s && not (same s (text "0"))) (is_natural (b ∷ s))
 
 -- the reading of an integer; one that 32 bits cannot hold is unfit for every sensor, as a boolean of 255 is
-unfoldable pub fitting : Signed → Given
-fitting integers.Bad = Boolean 255
-fitting (integers.Is x) = Integer x
+unfoldable pub fitting : Option ℤ → Given
+fitting None = Boolean 255
+fitting (Some x) = Integer x
 
 -- `@ n`
-abbrev pub ticking : Number → Entry
-ticking Bad = Line
-ticking (Is n) = Tick n
+abbrev pub ticking : Option ℕ → Entry
+ticking None = Line
+ticking (Some n) = Tick n
 
 -- `= s v`
-abbrev pub giving : Number → List ℕ → Entry
-giving Bad v = Line
-giving (Is s) v = cond (is_whole v) (Reading s (fitting (integer_of (read_integer v)))) Line
+abbrev pub giving : Option ℕ → List ℕ → Entry
+giving None v = Line
+giving (Some s) v = cond (is_whole v) (Reading s (fitting (integer_of (read_integer v)))) Line
 
 -- what an input line is; none of over 2,048 bytes is of the two kinds
 unfoldable pub entry_of : List ℕ → Entry

@@ -12,9 +12,7 @@ ghost use Rattle.terminal.specs.Entry as entries;
 ghost use Rattle.terminal.specs.Shown as shown;
 ghost use Rattle.terminal.specs.Start as start;
 
-use input::Integer;
 use machine::{Answer, State};
-use numbers::Number;
 use value::Reading;
 
 // What an input line is: a tick, a sensor's reading, or a line for the server.
@@ -26,16 +24,18 @@ pub enum Entry {
 }
 
 // A decimal; the largest number where it is larger.
-fn natural(t: &[u8]) -> Number
+#[tactic(auto, unfolding(crate::specs::Entry::natural))]
+fn natural(t: &[u8]) -> Option<u64>
     ensures { result ≡ entries.natural t.now (read_decimal t.now) }
 {
-    let Number::Is(n) = numbers::read_decimal(t) else {
-        if input::is_natural(t) {
-            return Number::Is(u64::MAX);
-        }
-        return Number::Bad;
-    };
-    Number::Is(n)
+    if let Some(n) = numbers::read_decimal(t) {
+        return Some(n);
+    }
+    if input::is_natural(t) {
+        Some(u64::MAX)
+    } else {
+        None
+    }
 }
 
 // Whether a text is an integer, of any size.
@@ -56,7 +56,7 @@ fn is_whole(t: &[u8]) -> bool
 fn integer_reading(t: &[u8]) -> Reading
     ensures { result ≡ entries.fitting (integer_of (read_integer t.now)) }
 {
-    let Integer::Is(x) = input::read_integer(t) else {
+    let Some(x) = input::read_integer(t) else {
         return Reading::Boolean(255);
     };
     Reading::Integer(x)
@@ -66,7 +66,7 @@ fn integer_reading(t: &[u8]) -> Reading
 fn tick_entry(line: &[u8]) -> Entry
     ensures { result ≡ entries.ticking (entries.natural (word_at 1 line.now) (read_decimal (word_at 1 line.now))) }
 {
-    let Number::Is(ms) = natural(input::word(line, 1)) else {
+    let Some(ms) = natural(input::word(line, 1)) else {
         return Entry::Line;
     };
     Entry::Tick(ms)
@@ -76,7 +76,7 @@ fn tick_entry(line: &[u8]) -> Entry
 fn reading_entry(line: &[u8]) -> Entry
     ensures { result ≡ entries.giving (entries.natural (word_at 1 line.now) (read_decimal (word_at 1 line.now))) (word_at 2 line.now) }
 {
-    let Number::Is(sensor) = natural(input::word(line, 1)) else {
+    let Some(sensor) = natural(input::word(line, 1)) else {
         return Entry::Line;
     };
     let v = input::word(line, 2);

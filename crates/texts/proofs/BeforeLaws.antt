@@ -1,12 +1,11 @@
 -- What stands before the first x of a text, and behind it.
 use Prim.Native.Nat.{ℕ, ◌+◌, ◌-◌, ◌≤◌}
-use mathlib.Core.Path.{◌≡◌, sym, ap, ◌∙◌}
+use mathlib.Core.Path.{◌≡◌, ap, ◌∙◌}
 use mathlib.Core.List.{List}
 use native.Mathlib.Omega.{arith}
-use lib.ListN.{length, take, drop, length-drop, drop_of_length-le}
-use lib.Seq.{drop-drop}
-use Rattle.output.specs.Read.{other, up_to, past}
-use Rattle.output.proofs.RunLaws.{run_le, run_take, run_drop}
+use lib.ListN.{length, take, drop, length-drop}
+use Rattle.output.specs.Read.{other, up_to}
+use Rattle.output.proofs.RunLaws.{run_le, run_take}
 use Rattle.texts.proofs.At.{to_end}
 
 -- from a position on it ends within the text: what a caller of `len_before` on `&s[at..]` needs
@@ -21,15 +20,3 @@ module _ (x : ℕ) (s : List ℕ) (n : ℕ) (before : n ≡ length (up_to x s)) 
 
   pub before_is : take n s ≡ up_to x s
   before_is = rw before (run_take (other x) s)
-
-  behind_is : drop (n + 1) s ≡ past x s
-  behind_is = rw (← drop-drop 1 n s, before, run_drop (other x) s)
-
-  pub behind_none : n ≡ length s → take (length s - n) (drop n s) ≡ past x s
-  behind_none h =
-      let a : length s ≤ n = omega arith in
-      let b : length s ≤ n + 1 = omega arith in
-      to_end s n ∙ (drop_of_length-le s a ∙ (sym (drop_of_length-le s b) ∙ behind_is))
-
-  pub behind_some : take (length s - (n + 1)) (drop (n + 1) s) ≡ past x s
-  behind_some = to_end s (n + 1) ∙ behind_is

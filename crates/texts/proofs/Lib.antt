@@ -1,5 +1,6 @@
 pub mod At
-pub mod ClassLaws
+pub mod ChainLaws
 pub mod PassLaws
 pub mod BeforeLaws
+pub mod SameLaws
 pub mod TableLaws

@@ -1,4 +1,5 @@
 -- A plain decimal taken apart at its point, and its number, up to one more than the most.
+use Rattle.std.specs.Prelude.{Some, None, Option}
 use Prim.Native.Nat.{ℕ, ◌+◌, ◌-◌, ◌*◌, ◌^◌, ◌<◌, ◌≤◌, min}
 use native.Mathlib.Omega.{arith}
 use mathlib.Core.Path.{◌≡◌, refl, ap, sym, ◌∙◌}
@@ -13,8 +14,6 @@ use Rattle.output.specs.Read.{value_from}
 use Rattle.output.proofs.ReadLaws.{value-append, value_from_lem}
 use Rattle.output.proofs.RunLaws.{run_whole}
 use Rattle.numbers.proofs.DigitLaws.{zeros_capped}
-use Rattle.value.specs.declared.Parameter.{Parameter}
-use Rattle.value.specs.declared.Parameter.TheVariants.{Is, Bad}
 use Rattle.value.specs.Parameter.{whole, whole_ok, fraction_ok, plain_decimal, fraction, units, decimal_ok, integer_difference_of}
 
 -- ---- the tests of each part
@@ -46,37 +45,37 @@ units_are k t h =
     let p : 10 ^ l * 10 ^ (k - l) ≡ 10 ^ k = sym (pow-add 10 l (k - l)) ∙ ap (λ (x : ℕ). 10 ^ x) z in
     rw (value-append 0 (whole t) (fraction t), value_from_lem (value_from 0 (whole t)) (fraction t), ← p) (omega arith)
 
-abbrev pub answer : ℕ → ℕ → ℕ → List ℕ → Parameter
-answer k least most t = cond (decimal_ok k least most t) (Is (units k t)) Bad
+abbrev pub answer : ℕ → ℕ → ℕ → List ℕ → Option ℕ
+answer k least most t = cond (decimal_ok k least most t) (Some (units k t)) None
 
 -- u is n up to one more than the most
-out_of_range : (least most u n : ℕ) → u ≡ min n (most + 1) → ltb u least || ltb most u ≡ true → Bad ≡ cond (leb least n && leb n most) (Is n) Bad
+out_of_range : (least most u n : ℕ) → u ≡ min n (most + 1) → ltb u least || ltb most u ≡ true → None ≡ cond (leb least n && leb n most) (Some n) None
 out_of_range least most u n e h = go (ltb u least) refl (ltb most u) refl h
   where
-    go : (a : Bool) → ltb u least ≡ a → (b : Bool) → ltb most u ≡ b → a || b ≡ true → Bad ≡ cond (leb least n && leb n most) (Is n) Bad
+    go : (a : Bool) → ltb u least ≡ a → (b : Bool) → ltb most u ≡ b → a || b ≡ true → None ≡ cond (leb least n && leb n most) (Some n) None
     go a p true q h = let l = ltb-true most u q in rw (lt-leb n most (omega arith), and-false (leb least n))
     go true p false q h = let l = ltb-true u least p in let m = ltb-false most u q in rw (lt-leb least n (omega arith))
     go false p false q h = absurd (false≢true h)
 
-in_range_lem : (least most u n : ℕ) → u ≡ min n (most + 1) → ltb u least || ltb most u ≡ false → Is u ≡ cond (leb least n && leb n most) (Is n) Bad
+in_range_lem : (least most u n : ℕ) → u ≡ min n (most + 1) → ltb u least || ltb most u ≡ false → Some u ≡ cond (leb least n && leb n most) (Some n) None
 in_range_lem least most u n e h = go (ltb u least) refl (ltb most u) refl h
   where
-    go : (a : Bool) → ltb u least ≡ a → (b : Bool) → ltb most u ≡ b → a || b ≡ false → Is u ≡ cond (leb least n && leb n most) (Is n) Bad
+    go : (a : Bool) → ltb u least ≡ a → (b : Bool) → ltb most u ≡ b → a || b ≡ false → Some u ≡ cond (leb least n && leb n most) (Some n) None
     go false p false q h =
         let l = ltb-false u least p in
         let m = ltb-false most u q in
         let s : u ≡ n = omega arith in
-        rw (le-leb least n (omega arith), le-leb n most (omega arith)) (ap Is s)
+        rw (le-leb least n (omega arith), le-leb n most (omega arith)) (ap Some s)
     go false p true q h = absurd (true≢false h)
     go true p b q h = absurd (true≢false h)
 
 module _ (k least most : ℕ) (t : List ℕ) where
-  pub not_plain : plain_decimal t ≡ false → Bad ≡ answer k least most t
+  pub not_plain : plain_decimal t ≡ false → None ≡ answer k least most t
   unfolding decimal_ok
   not_plain e = rw e
 
   module _ (plain : plain_decimal t ≡ true) where
-    pub too_long : k < length (fraction t) → Bad ≡ answer k least most t
+    pub too_long : k < length (fraction t) → None ≡ answer k least most t
     unfolding decimal_ok
     too_long h = rw (plain, lt-leb (length (fraction t)) k h)
 
@@ -89,21 +88,21 @@ module _ (k least most : ℕ) (t : List ℕ) where
           ∙ zeros_capped (most + 1) (value_from 0 (whole t ++ fraction t)) (k - length (fraction t))
           ∙ ap (λ (x : ℕ). min x (most + 1)) (sym (units_are k t short))
 
-      pub out_is : ltb u least || ltb most u ≡ true → Bad ≡ answer k least most t
+      pub out_is : ltb u least || ltb most u ≡ true → None ≡ answer k least most t
       unfolding decimal_ok
       out_is h = rw (plain, le-leb (length (fraction t)) k short) (out_of_range least most u (units k t) number h)
 
-      pub in_is : ltb u least || ltb most u ≡ false → Is u ≡ answer k least most t
+      pub in_is : ltb u least || ltb most u ≡ false → Some u ≡ answer k least most t
       unfolding decimal_ok
       in_is h = rw (plain, le-leb (length (fraction t)) k short) (in_range_lem least most u (units k t) number h)
 
 -- ---- in millionths
 
-pub answer_below : (k least most : ℕ) (t : List ℕ) (n : ℕ) → Is n ≡ answer k least most t → n ≤ most
+pub answer_below : (k least most : ℕ) (t : List ℕ) (n : ℕ) → Some n ≡ answer k least most t → n ≤ most
 unfolding decimal_ok
 answer_below k least most t n e = go (decimal_ok k least most t) refl e
   where
-    go : (a : Bool) → decimal_ok k least most t ≡ a → Is n ≡ cond a (Is (units k t)) Bad → n ≤ most
+    go : (a : Bool) → decimal_ok k least most t ≡ a → Some n ≡ cond a (Some (units k t)) None → n ≤ most
     go true p e =
         let z : n ≡ units k t = cc in
         let q = ((and-eq-true_iff (plain_decimal t) _).0 p).1 in
@@ -112,14 +111,14 @@ answer_below k least most t n e = go (decimal_ok k least most t) refl e
         omega arith
     go false p e = let z : ◌≡◌ {A = ℕ} 0 1 = cc in absurd (omega arith)
 
-abbrev millionths : Parameter → Parameter
-millionths (Is n) = Is (n * 1000000)
-millionths Bad = Bad
+abbrev millionths : Option ℕ → Option ℕ
+millionths (Some n) = Some (n * 1000000)
+millionths None = None
 
-pub in_millionths : (p : Parameter) (t : List ℕ) → p ≡ answer 0 0 4294967295 t → millionths p ≡ integer_difference_of t
+pub in_millionths : (p : Option ℕ) (t : List ℕ) → p ≡ answer 0 0 4294967295 t → millionths p ≡ integer_difference_of t
 unfolding integer_difference_of
 in_millionths p t e = ap millionths e ∙ go (decimal_ok 0 0 4294967295 t)
   where
-    go : (ok : Bool) → millionths (cond ok (Is (units 0 t)) Bad) ≡ cond ok (Is (units 0 t * 1000000)) Bad
+    go : (ok : Bool) → millionths (cond ok (Some (units 0 t)) None) ≡ cond ok (Some (units 0 t * 1000000)) None
     go true = refl
     go false = refl

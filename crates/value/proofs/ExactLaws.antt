@@ -1,4 +1,5 @@
 -- What is read as a difference of floats: exactly the exact decimals, and the plain ones as before.
+use Rattle.std.specs.Prelude.{Some, None}
 use Prim.Native.Nat.{ℕ, ◌+◌, ◌-◌, ◌*◌, ◌/◌, ◌%◌, ◌^◌, ◌≤◌, ◌<◌, min}
 use native.Mathlib.Nat.{mod-one, div-add-mod', mul_assoc, mul-div_cancel, mul-mod_left, one-le-pow, eq_of_mul-eq-mul_right, eq-zero-or-pos}
 use native.Mathlib.Omega.{arith}
@@ -14,11 +15,7 @@ use Rattle.output.specs.Text.{is_digit, all, run, behind_run}
 use Rattle.output.specs.Read.{value_from}
 use Rattle.output.proofs.TextLaws.{digit_range}
 use Rattle.output.proofs.RunLaws.{run-append, behind-append}
-use Rattle.numbers.specs.declared.Number.{Number}
-use Rattle.numbers.specs.declared.Number.TheVariants as number
 use Rattle.scientific.specs.Decimal.{behind_sign, behind_point, is_minus, exponent_ok, whole_digits, fraction_digits, digits, exponent, is_scientific, places_up, places_down, is_whole, millionths, scientific_ok}
-use Rattle.value.specs.declared.Parameter.{Parameter}
-use Rattle.value.specs.declared.Parameter.TheVariants.{Is, Bad}
 use Rattle.value.specs.Parameter.{whole, behind_whole, whole_ok, fraction_ok, plain_decimal, fraction, units, decimal_ok, float_difference_of}
 use Rattle.value.specs.Exact.{Exact, Reads}
 use Rattle.value.proofs.DecimalLaws.{answer, units_are}
@@ -69,11 +66,11 @@ module _ (v up down : ℕ) where
 
 -- ---- what is read
 
-only_exact : (t : List ℕ) (n : ℕ) → float_difference_of t ≡ Is n → Exact t n
+only_exact : (t : List ℕ) (n : ℕ) → float_difference_of t ≡ Some n → Exact t n
 unfolding float_difference_of scientific_ok is_whole millionths
 only_exact t n h = go (scientific_ok 2097152000000 t) refl h
   where
-    go : (b : Bool) → scientific_ok 2097152000000 t ≡ b → cond b (Is (millionths t)) Bad ≡ Is n → Exact t n
+    go : (b : Bool) → scientific_ok 2097152000000 t ≡ b → cond b (Some (millionths t)) None ≡ Some n → Exact t n
     go false q e = let z : ◌≡◌ {A = ℕ} 0 1 = cc in absurd (omega arith)
     go true q e =
         let z : millionths t ≡ n = cc in
@@ -87,7 +84,7 @@ only_exact t n h = go (scientific_ok 2097152000000 t) refl h
           sign = λ m. sym z ∙ eqb-true (millionths t) 0 (ap (λ (s : Bool). not s || eqb (millionths t) 0) (sym m) ∙ c.1);
         }
 
-every_exact : (t : List ℕ) (n : ℕ) → Exact t n → float_difference_of t ≡ Is n
+every_exact : (t : List ℕ) (n : ℕ) → Exact t n → float_difference_of t ≡ Some n
 unfolding float_difference_of scientific_ok is_whole millionths
 every_exact t n x =
     let m = shifted_in (value_from 0 (digits t)) (places_up t) (places_down t) n x.number in
@@ -170,11 +167,11 @@ plain_exact t h s m =
     }
 
 -- a plain decimal is read as no other number
-pub plain_only : (t : List ℕ) (n : ℕ) → plain_decimal t ≡ true → length (fraction t) ≤ 6 → float_difference_of t ≡ Is n → n ≡ units 6 t
+pub plain_only : (t : List ℕ) (n : ℕ) → plain_decimal t ≡ true → length (fraction t) ≤ 6 → float_difference_of t ≡ Some n → n ≡ units 6 t
 plain_only t n h s e =
     eq_of_mul-eq-mul_right (10 ^ places_down t) (one-le-pow (places_down t) 10 (omega arith)) n (units 6 t) ((only_exact t n e).number ∙ sym (plain_number t (plain t h) s))
 
-still_read : (t : List ℕ) → decimal_ok 6 0 2097152000000 t ≡ true → float_difference_of t ≡ Is (units 6 t)
+still_read : (t : List ℕ) → decimal_ok 6 0 2097152000000 t ≡ true → float_difference_of t ≡ Some (units 6 t)
 unfolding decimal_ok
 still_read t h =
     let a = (and-eq-true_iff (plain_decimal t) _).0 h in
@@ -185,23 +182,9 @@ still_read t h =
 pub reads : Reads
 reads = record { only = only_exact; every = every_exact; still = still_read }
 
-pub plain_read : (t : List ℕ) (n : ℕ) → answer 6 0 2097152000000 t ≡ Is n → float_difference_of t ≡ Is n
+pub plain_read : (t : List ℕ) (n : ℕ) → answer 6 0 2097152000000 t ≡ Some n → float_difference_of t ≡ Some n
 plain_read t n e = go (decimal_ok 6 0 2097152000000 t) refl e
   where
-    go : (b : Bool) → decimal_ok 6 0 2097152000000 t ≡ b → cond b (Is (units 6 t)) Bad ≡ Is n → float_difference_of t ≡ Is n
+    go : (b : Bool) → decimal_ok 6 0 2097152000000 t ≡ b → cond b (Some (units 6 t)) None ≡ Some n → float_difference_of t ≡ Some n
     go true q e = still_read t q ∙ e
     go false q e = let z : ◌≡◌ {A = ℕ} 0 1 = cc in absurd (omega arith)
-
--- ---- as the code gives it
-
-abbrev as_parameter : Number → Parameter
-as_parameter (number.Is n) = Is n
-as_parameter number.Bad = Bad
-
-pub as_parameter_lem : (r : Number) (t : List ℕ) → r ≡ cond (scientific_ok 2097152000000 t) (number.Is (millionths t)) number.Bad → as_parameter r ≡ float_difference_of t
-unfolding float_difference_of
-as_parameter_lem r t e = ap as_parameter e ∙ go (scientific_ok 2097152000000 t)
-  where
-    go : (b : Bool) → as_parameter (cond b (number.Is (millionths t)) number.Bad) ≡ cond b (Is (millionths t)) Bad
-    go true = refl
-    go false = refl

@@ -2,7 +2,6 @@ pub mod BitLaws
 pub mod IntegerLaws
 pub mod SignedLaws
 pub mod DoubleLaws
-pub mod ValueLaws
 pub mod SampleLaws
 pub mod DecimalLaws
 pub mod ExactLaws

@@ -1,4 +1,5 @@
 -- A parameter that is written reads back as its number.
+use Rattle.std.specs.Prelude.{Some}
 use Prim.Native.Nat.{ℕ, zero, suc, ◌+◌, ◌-◌, ◌*◌, ◌/◌, ◌%◌, ◌^◌, ◌<◌, ◌≤◌}
 use Prim.Native.Char.{code}
 use native.Mathlib.Nat.{mod-lt, div-add-mod', mul_assoc, one-le-pow, eq_of_mul-eq-mul_right, eq-zero-or-pos, le_refl, lt_of_le_of_lt, div-le_self}
@@ -17,7 +18,6 @@ use Rattle.output.proofs.TextLaws.{digit_is, Every, every_all, every_decimal, ev
 use Rattle.output.proofs.RunLaws.{run-append, behind-append}
 use Rattle.output.proofs.LengthLaws.{length-fraction}
 use Rattle.output.proofs.ReadLaws.{value_decimal, fraction_exact}
-use Rattle.value.specs.declared.Parameter.TheVariants.{Is}
 use Rattle.value.specs.Parameter.{whole, behind_whole, whole_ok, fraction_ok, plain_decimal, units, decimal_ok, integer_difference_of, float_difference_of, period_of, shortest_of}
 use Rattle.value.proofs.DecimalLaws.{answer, in_millionths}
 use Rattle.value.proofs.ExactLaws.{plain_read}
@@ -84,7 +84,7 @@ module _ (w : ℕ) (b : List ℕ) (fits : w < 2 ^ 64) (behind : Behind b) where
 
   -- it is read as n where n is its number, in range
   answer_is : (k least most n : ℕ) → length (drop 1 b) ≤ k → w * 10 ^ k + value_from 0 (drop 1 b) * 10 ^ (k - length (drop 1 b)) ≡ n
-      → least ≤ n → n ≤ most → answer k least most (decimal w ++ b) ≡ Is n
+      → least ≤ n → n ≤ most → answer k least most (decimal w ++ b) ≡ Some n
   unfolding decimal_ok
   answer_is k least most n s e l m =
       let u = units_is k ∙ e in
@@ -107,11 +107,11 @@ module _ (base k least most m : ℕ) (e : base ≡ 10 ^ k) (h : m < 2 ^ 64) (l :
       ∙ ap (λ (y : ℕ). m / base * y + m % base) (sym e)
       ∙ div-add-mod' m base
 
-  written : (ds : List ℕ) → Behind (code "." ∷ ds) → length ds ≤ k → value_from 0 ds * base ≡ m % base * 10 ^ length ds → answer k least most (decimal (m / base) ++ (code "." ∷ ds)) ≡ Is m
+  written : (ds : List ℕ) → Behind (code "." ∷ ds) → length ds ≤ k → value_from 0 ds * base ≡ m % base * 10 ^ length ds → answer k least most (decimal (m / base) ++ (code "." ∷ ds)) ≡ Some m
   written ds b s x =
       answer_is (m / base) (code "." ∷ ds) (lt_of_le_of_lt (div-le_self m base) h) b k least most m s (number_is (value_from 0 ds) (length ds) s x) l o
 
-fixed_answer : (base k least most m : ℕ) → base ≡ 10 ^ suc k → m < 2 ^ 64 → least ≤ m → m ≤ most → answer (suc k) least most (fixed base (suc k) m) ≡ Is m
+fixed_answer : (base k least most m : ℕ) → base ≡ 10 ^ suc k → m < 2 ^ 64 → least ≤ m → m ≤ most → answer (suc k) least most (fixed base (suc k) m) ≡ Some m
 unfolding fixed
 fixed_answer base k least most m e h l o =
     let p : 0 < base = rw e (one-le-pow (suc k) 10 (omega arith)) in
@@ -121,7 +121,7 @@ fixed_answer base k least most m e h l o =
     (length-fraction base (suc k) (m % base))
     x
 
-time_answer : (least most m : ℕ) → m < 2 ^ 64 → least ≤ m → m ≤ most → answer 3 least most (time m) ≡ Is m
+time_answer : (least most m : ℕ) → m < 2 ^ 64 → least ≤ m → m ≤ most → answer 3 least most (time m) ≡ Some m
 unfolding time
 time_answer least most m h l o =
     let a : 48 + m / 100 % 10 - 48 ≡ m / 100 % 10 = omega arith in
@@ -134,24 +134,24 @@ time_answer least most m h l o =
 
 -- ---- each parameter
 
-pub period_back : (p : ℕ) → 1 ≤ p → p ≤ 86400000 → period_of (time p) ≡ Is p
+pub period_back : (p : ℕ) → 1 ≤ p → p ≤ 86400000 → period_of (time p) ≡ Some p
 unfolding period_of
 period_back p l h = time_answer 1 86400000 p (omega arith) l h
 
-pub shortest_back : (p : ℕ) → p ≤ 86400000 → shortest_of (time p) ≡ Is p
+pub shortest_back : (p : ℕ) → p ≤ 86400000 → shortest_of (time p) ≡ Some p
 unfolding shortest_of
 shortest_back p h = time_answer 0 86400000 p (omega arith) (omega arith) h
 
-pub float_difference_back : (d : ℕ) → d ≤ 2097152000000 → float_difference_of (difference d) ≡ Is d
+pub float_difference_back : (d : ℕ) → d ≤ 2097152000000 → float_difference_of (difference d) ≡ Some d
 unfolding difference
 float_difference_back d h = plain_read (difference d) d (fixed_answer 1000000 5 0 2097152000000 d refl (omega arith) (omega arith) h)
 
-decimal_answer : (most w : ℕ) → w < 2 ^ 64 → w ≤ most → answer 0 0 most (decimal w) ≡ Is w
+decimal_answer : (most w : ℕ) → w < 2 ^ 64 → w ≤ most → answer 0 0 most (decimal w) ≡ Some w
 decimal_answer most w h o =
     rw (← append-nil (decimal w)) (answer_is w [] h behind_nothing 0 0 most w (le_refl 0) (omega arith) (omega arith) o)
 
-pub integer_difference_back : (d : ℕ) → d ≤ 4294967295000000 → d % 1000000 ≡ 0 → integer_difference_of (whole_difference d) ≡ Is d
+pub integer_difference_back : (d : ℕ) → d ≤ 4294967295000000 → d % 1000000 ≡ 0 → integer_difference_of (whole_difference d) ≡ Some d
 unfolding whole_difference
 integer_difference_back d h e =
-    sym (in_millionths (Is (d / 1000000)) (decimal (d / 1000000)) (sym (decimal_answer 4294967295 (d / 1000000) (omega arith) (omega arith))))
-    ∙ ap Is (omega arith)
+    sym (in_millionths (Some (d / 1000000)) (decimal (d / 1000000)) (sym (decimal_answer 4294967295 (d / 1000000) (omega arith) (omega arith))))
+    ∙ ap Some (omega arith)

@@ -1,4 +1,5 @@
 -- Which samples a sensor can have: what `sample_of` answers fits the type, and so does the sample of a fresh sensor.
+use Rattle.std.specs.Prelude.{Some, None, Option}
 use Prim.Native.Nat.{ℕ, ◌^◌, ◌<◌, ◌≤◌}
 use native.Mathlib.Omega.{arith}
 use mathlib.Core.Path.{◌≡◌, refl}
@@ -7,13 +8,9 @@ use lib.Dec.{eqb, ltb}
 use lib.IntN.{ℤ, pos, negsuc}
 use lib.Ieee as ieee
 use borrow.Author.Tests.{le-leb, lt-ltb, ltb-true, eq-eqb, eqb-true}
-use Rattle.value.specs.declared.Fit.{Fit}
-use Rattle.value.specs.declared.Fit.TheVariants.{At, Out}
 use Rattle.value.specs.declared.Reading.{Reading}
-use Rattle.value.specs.declared.Reading.TheVariants.{Integer, Float, Boolean, Option, Timestamp, Failure, Unreachable, Inactive}
+use Rattle.value.specs.declared.Reading.TheVariants.{Integer, Float, Boolean, Option as Choice, Timestamp, Failure, Unreachable, Inactive}
 use Rattle.value.specs.declared.Sample.{Sample}
-use Rattle.value.specs.declared.Sampled.{Sampled}
-use Rattle.value.specs.declared.Sampled.TheVariants.{As, Unfit}
 use Rattle.value.specs.Double.{of_double, exact1024}
 use Rattle.value.specs.Integer.{biased_integer, is_signed32}
 use Rattle.value.specs.Reading.{sample, valid, only_for, below, of_integer, of_fit, zero_of, invalid, fresh, sample_of, number_fits, sample_fits}
@@ -22,22 +19,22 @@ use Rattle.value.proofs.DoubleLaws.{exact_stands}
 -- ---- what a sample was made of
 
 -- a reading that is taken has the sensor's type
-only_for_as : (t k : ℕ) (a : Sampled) (x : Sample) → only_for t k a ≡ As x → (t ≡ k) × (a ≡ As x)
+only_for_as : (t k : ℕ) (a : Option Sample) (x : Sample) → only_for t k a ≡ Some x → (t ≡ k) × (a ≡ Some x)
 only_for_as t k a x h = go (eqb t k) refl h
   where
-    go : (b : Bool) → eqb t k ≡ b → cond b a Unfit ≡ As x → (t ≡ k) × (a ≡ As x)
+    go : (b : Bool) → eqb t k ≡ b → cond b a None ≡ Some x → (t ≡ k) × (a ≡ Some x)
     go true e g = (eqb-true _ _ e, g)
     go false e g = let z : ◌≡◌ {A = ℕ} 0 1 = cc in absurd (omega arith)
 
 -- a number that is taken passes its test
-test_as : (b : Bool) (n : ℕ) (x : Sample) → cond b (valid n) Unfit ≡ As x → (b ≡ true) × (x ≡ sample 1 n)
+test_as : (b : Bool) (n : ℕ) (x : Sample) → cond b (valid n) None ≡ Some x → (b ≡ true) × (x ≡ sample 1 n)
 test_as true n x h = (refl, cc)
 test_as false n x h = let z : ◌≡◌ {A = ℕ} 0 1 = cc in absurd (omega arith)
 
 -- the number of a double that is taken
-fit_as : (f : Fit) (x : Sample) → of_fit f ≡ As x → (n : ℕ) × ((f ≡ At n) × (x ≡ sample 1 n))
-fit_as (At n) x h = (n, (refl, cc))
-fit_as Out x h = let z : ◌≡◌ {A = ℕ} 0 1 = cc in absurd (omega arith)
+fit_as : (f : Option ℕ) (x : Sample) → of_fit f ≡ Some x → (n : ℕ) × ((f ≡ Some n) × (x ≡ sample 1 n))
+fit_as (Some n) x h = (n, (refl, cc))
+fit_as None x h = let z : ◌≡◌ {A = ℕ} 0 1 = cc in absurd (omega arith)
 
 -- ---- the numbers
 
@@ -47,7 +44,7 @@ signed_lt (pos n) h = let l = ltb-true n (2 ^ 31) h in omega arith
 signed_lt (negsuc n) h = omega arith
 
 -- the stored number of a double
-exact_le : (d : ieee.Float) (n : ℕ) → exact1024 d ≡ At n → n ≤ 2 ^ 31
+exact_le : (d : ieee.Float) (n : ℕ) → exact1024 d ≡ Some n → n ≤ 2 ^ 31
 unfolding of_double
 exact_le ieee.nan n h = let z : ◌≡◌ {A = ℕ} 0 1 = cc in absurd (omega arith)
 exact_le (ieee.inf s) n h = let z : ◌≡◌ {A = ℕ} 0 1 = cc in absurd (omega arith)
@@ -61,14 +58,14 @@ unfolding sample_fits
 number_fits_lem t k options n x e f h = rw (f, e) h
 
 -- a sample of another kind
-other_fits : (t options k : ℕ) (x : Sample) → eqb k 1 ≡ false → k ≤ 4 → As (invalid t k) ≡ As x → sample_fits t options x ≡ true
+other_fits : (t options k : ℕ) (x : Sample) → eqb k 1 ≡ false → k ≤ 4 → Some (invalid t k) ≡ Some x → sample_fits t options x ≡ true
 unfolding sample_fits
 other_fits t options k x e l h =
     let f : x ≡ invalid t k = cc in
     rw (f, e, le-leb k 4 l, eq-eqb (zero_of t) (zero_of t) refl)
 
 -- what a reading becomes
-pub sample_fits_lem : (t options : ℕ) (r : Reading) (x : Sample) → sample_of t options r ≡ As x → sample_fits t options x ≡ true
+pub sample_fits_lem : (t options : ℕ) (r : Reading) (x : Sample) → sample_of t options r ≡ Some x → sample_fits t options x ≡ true
 unfolding sample_of number_fits
 sample_fits_lem t options (Integer z) x h =
     let a = only_for_as t 1 (of_integer z) x h in
@@ -83,7 +80,7 @@ sample_fits_lem t options (Boolean n) x h =
     let b = test_as (ltb n 2) n x a.1 in
     let l = ltb-true n 2 b.0 in
     number_fits_lem t 3 options n x a.0 b.1 (le-leb n 1 (omega arith))
-sample_fits_lem t options (Option n) x h =
+sample_fits_lem t options (Choice n) x h =
     let a = only_for_as t 4 (below options n) x h in
     let b = test_as (ltb n options) n x a.1 in
     number_fits_lem t 4 options n x a.0 b.1 b.0

@@ -1,8 +1,8 @@
 -- A signed 32-bit integer and its stored number.
 use mathlib.Core.Path.{◌≡◌, sym, ap, ◌∙◌, subst}
-use Prim.Native.Nat.{ℕ, suc, ◌+◌, ◌-◌, ◌^◌, ◌<◌, ◌≤◌}
+use Prim.Native.Nat.{◌^◌, ◌<◌}
 use native.Mathlib.Omega.{arith}
-use borrow.Author.Tests.{le-ltb, lt-ltb, le-leb, lt-leb}
+use borrow.Author.Tests.{lt-ltb}
 use mathlib.Core.Bool.{true}
 use lib.Dec.{T}
 use lib.IntN.{ℤ, pos, negsuc, nat_abs, ◌+ℤ◌}
@@ -10,9 +10,7 @@ use lib.Signed.{non_neg}
 use mir.Syntax.{w32, w64}
 use mir.Val.{Fits, SFits, to_z, of_z}
 use mir.ValLaws.{to_z-of_z}
-use Rattle.value.specs.declared.Fit.TheVariants.{At, Out}
-use Rattle.value.specs.Double.{within_signed}
-use Rattle.value.specs.Integer.{biased_integer, is_signed32, signed32}
+use Rattle.value.specs.Integer.{biased_integer, is_signed32}
 use Rattle.value.proofs.IntegerLaws.{biased_is}
 
 sum_is : (z : ℤ) → SFits w32 z → z +ℤ pos (2 ^ 31) ≡ pos (biased_integer z)
@@ -52,31 +50,3 @@ module _ (z : ℤ) (h : SFits w32 z) where
 
   pub stored_fits_lem : T (non_neg (pos (biased_integer z))) × Fits w64 (nat_abs (pos (biased_integer z)))
   stored_fits_lem = let l = biased_lt z h in (tt, record { fits = omega arith })
-
--- ---- the four bytes of a sheet
-
-pub word_low : (w : ℕ) → w < 2 ^ 31 → w + 2 ^ 31 ≡ biased_integer (signed32 w)
-word_low w h = rw (lt-ltb w (2 ^ 31) h) (omega arith)
-
-pub word_high : (w : ℕ) → w < 2 ^ 32 → 2 ^ 31 ≤ w → w - 2 ^ 31 ≡ biased_integer (signed32 w)
-word_high w l h = rw (le-ltb w (2 ^ 31) h) (omega arith)
-
--- ---- a count of 1024ths, from the number stored as an integer
-
-pub too_low : (z : ℤ) (n : ℕ) → n ≡ biased_integer z → n < 2 ^ 30 → Out ≡ within_signed z
-too_low (pos k) n e h = absurd (omega arith)
-too_low (negsuc k) n e h = let l : 2 ^ 30 < suc k = omega arith in rw (lt-leb _ _ l)
-
-pub too_high : (z : ℤ) (n : ℕ) → n ≡ biased_integer z → 2 ^ 31 < n - 2 ^ 30 → Out ≡ within_signed z
-too_high (pos k) n e h = let l : 2 ^ 30 < k = omega arith in rw (lt-leb _ _ l)
-too_high (negsuc k) n e h = absurd (omega arith)
-
-pub in_grid : (z : ℤ) (n : ℕ) → n ≡ biased_integer z → 2 ^ 30 ≤ n → n - 2 ^ 30 ≤ 2 ^ 31 → At (n - 2 ^ 30) ≡ within_signed z
-in_grid (pos k) n e l h =
-    let i : k ≤ 2 ^ 30 = omega arith in
-    let f : n - 2 ^ 30 ≡ 2 ^ 30 + k = omega arith in
-    rw (le-leb _ _ i) (ap At f)
-in_grid (negsuc k) n e l h =
-    let i : suc k ≤ 2 ^ 30 = omega arith in
-    let f : n - 2 ^ 30 ≡ 2 ^ 30 - suc k = omega arith in
-    rw (le-leb _ _ i) (ap At f)

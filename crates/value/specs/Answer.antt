@@ -1,16 +1,13 @@
 -- Document 01's number for each answer of this crate that is an enum: 0 where nothing is refused.
-use Rattle.std.specs.Prelude.{ℕ}
-use Rattle.value.specs.declared.Sampled.{Sampled}
-use Rattle.value.specs.declared.Sampled.TheVariants.{As, Unfit}
-use Rattle.value.specs.declared.Parameter.{Parameter}
-use Rattle.value.specs.declared.Parameter.TheVariants.{Is, Bad}
+use Rattle.value.specs.declared.Sample.{Sample}
+use Rattle.std.specs.Prelude.{ℕ, Some, None, Option}
 
 -- "reading unfit for type", 10
-abbrev pub sampled_number : Sampled → ℕ
-sampled_number (As s) = 0
-sampled_number Unfit = 10
+abbrev pub sampled_number : Option Sample → ℕ
+sampled_number (Some s) = 0
+sampled_number None = 10
 
 -- "parameter", 19
-abbrev pub parameter_number : Parameter → ℕ
-parameter_number (Is n) = 0
-parameter_number Bad = 19
+abbrev pub parameter_number : Option ℕ → ℕ
+parameter_number (Some n) = 0
+parameter_number None = 19

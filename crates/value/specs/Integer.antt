@@ -1,5 +1,5 @@
 -- "Integers are signed 32-bit": stored as 2^31 more than the number.
-use Rattle.std.specs.Prelude.{ℕ, suc, ◌+◌, ◌-◌, ◌*◌, ◌^◌, Bool, cond, ltb, ℤ, pos, negsuc}
+use Rattle.std.specs.Prelude.{ℕ, suc, ◌+◌, ◌-◌, ◌*◌, ◌^◌, Bool, cond, ltb, List, get_or, ℤ, pos, negsuc}
 
 -- "Integers are signed 32-bit"
 abbrev pub is_signed32 : ℤ → Bool
@@ -18,3 +18,7 @@ word a b c d = a * 16777216 + b * 65536 + c * 256 + d
 -- two's complement: the 32 bits w stand for w, or from 2^31 on for w - 2^32, which is -((2^32 - suc w) + 1)
 abbrev pub signed32 : ℕ → ℤ
 signed32 w = cond (ltb w (2 ^ 31)) (pos w) (negsuc (2 ^ 32 - suc w))
+
+-- four bytes, big-endian, as a signed number
+abbrev pub signed_in : List ℕ → ℤ
+signed_in w = signed32 (word (get_or w 0 0) (get_or w 1 0) (get_or w 2 0) (get_or w 3 0))

@@ -1,11 +1,9 @@
 -- The parameters of a strategy, read from their text (document 01, "Requests").
-use Rattle.std.specs.Prelude.{ℕ, ◌+◌, ◌-◌, ◌*◌, ◌^◌, Bool, true, false, not, cond, ◌&&◌, ◌||◌, List, [], ◌∷◌, eqb, leb, length, drop}
+use Rattle.std.specs.Prelude.{ℕ, ◌+◌, ◌-◌, ◌*◌, ◌^◌, Bool, true, false, not, cond, ◌&&◌, ◌||◌, List, [], ◌∷◌, eqb, leb, length, drop, Some, None, Option}
 use Prim.Native.Char.{code}
 use Rattle.output.specs.Text.{is_digit, all, run, behind_run}
 use Rattle.output.specs.Read.{value_from}
 use Rattle.scientific.specs.Decimal.{millionths, scientific_ok}
-use Rattle.value.specs.declared.Parameter.{Parameter}
-use Rattle.value.specs.declared.Parameter.TheVariants.{Is, Bad}
 
 -- the digits that a text starts with
 abbrev pub whole : List ℕ → List ℕ
@@ -44,18 +42,18 @@ decimal_ok k least most t =
     plain_decimal t && (leb (length (fraction t)) k && (leb least (units k t) && leb (units k t) most))
 
 -- "Difference: integer (no point) to 4,294,967,295", in millionths
-unfoldable pub integer_difference_of : List ℕ → Parameter
-integer_difference_of t = cond (decimal_ok 0 0 4294967295 t) (Is (units 0 t * 1000000)) Bad
+unfoldable pub integer_difference_of : List ℕ → Option ℕ
+integer_difference_of t = cond (decimal_ok 0 0 4294967295 t) (Some (units 0 t * 1000000)) None
 
 -- "float to 2,097,152", in millionths, and document 02, (b): "a float is read as C99 does, in decimal form. [...] The exact decimal must still be at
 -- most 2,097,152 and a whole number of millionths. Minus is taken only for zero."
-unfoldable pub float_difference_of : List ℕ → Parameter
-float_difference_of t = cond (scientific_ok 2097152000000 t) (Is (millionths t)) Bad
+unfoldable pub float_difference_of : List ℕ → Option ℕ
+float_difference_of t = cond (scientific_ok 2097152000000 t) (Some (millionths t)) None
 
 -- "Periods: 0.001 to 86,400 seconds, at most 3 fraction digits", in milliseconds
-unfoldable pub period_of : List ℕ → Parameter
-period_of t = cond (decimal_ok 3 1 86400000 t) (Is (units 3 t)) Bad
+unfoldable pub period_of : List ℕ → Option ℕ
+period_of t = cond (decimal_ok 3 1 86400000 t) (Some (units 3 t)) None
 
 -- "(shortest may be 0)"
-unfoldable pub shortest_of : List ℕ → Parameter
-shortest_of t = cond (decimal_ok 3 0 86400000 t) (Is (units 3 t)) Bad
+unfoldable pub shortest_of : List ℕ → Option ℕ
+shortest_of t = cond (decimal_ok 3 0 86400000 t) (Some (units 3 t)) None

@@ -1,13 +1,9 @@
 -- What a reading becomes (document 01, "Values"): a sample, which is a kind (0 unknown, 1 valid, 2 failure, 3 unreachable, 4 inactive)
 -- and a stored number, or unfit for the sensor's type (1 integer, 2 float, 3 boolean, 4 discrete, 5 timestamp).
-use Rattle.std.specs.Prelude.{ℕ, ◌^◌, Bool, cond, ◌&&◌, ◌||◌, eqb, leb, ltb, ℤ}
-use Rattle.value.specs.declared.Fit.{Fit}
-use Rattle.value.specs.declared.Fit.TheVariants.{At, Out}
+use Rattle.std.specs.Prelude.{ℕ, ◌^◌, Bool, cond, ◌&&◌, ◌||◌, eqb, leb, ltb, ℤ, Some, None, Option}
 use Rattle.value.specs.declared.Reading.{Reading}
-use Rattle.value.specs.declared.Reading.TheVariants.{Integer, Float, Boolean, Option, Timestamp, Failure, Unreachable, Inactive}
+use Rattle.value.specs.declared.Reading.TheVariants.{Integer, Float, Boolean, Option as Choice, Timestamp, Failure, Unreachable, Inactive}
 use Rattle.value.specs.declared.Sample.{Sample}
-use Rattle.value.specs.declared.Sampled.{Sampled}
-use Rattle.value.specs.declared.Sampled.TheVariants.{As, Unfit}
 use Rattle.value.specs.Double.{exact1024}
 use Rattle.value.specs.Integer.{biased_integer, is_signed32}
 
@@ -16,25 +12,25 @@ abbrev pub sample : ℕ → ℕ → Sample
 sample kind number = record { kind = kind; number = number }
 
 -- a valid sample
-abbrev pub valid : ℕ → Sampled
-valid n = As (sample 1 n)
+abbrev pub valid : ℕ → Option Sample
+valid n = Some (sample 1 n)
 
 -- for a sensor of type t, a reading of type k
-abbrev pub only_for : ℕ → ℕ → Sampled → Sampled
-only_for t k a = cond (eqb t k) a Unfit
+abbrev pub only_for : ℕ → ℕ → Option Sample → Option Sample
+only_for t k a = cond (eqb t k) a None
 
 -- a number that must be below a limit
-abbrev pub below : ℕ → ℕ → Sampled
-below limit n = cond (ltb n limit) (valid n) Unfit
+abbrev pub below : ℕ → ℕ → Option Sample
+below limit n = cond (ltb n limit) (valid n) None
 
 -- an integer that is signed 32-bit
-abbrev pub of_integer : ℤ → Sampled
-of_integer x = cond (is_signed32 x) (valid (biased_integer x)) Unfit
+abbrev pub of_integer : ℤ → Option Sample
+of_integer x = cond (is_signed32 x) (valid (biased_integer x)) None
 
 -- a double that fits, or is unfit
-abbrev pub of_fit : Fit → Sampled
-of_fit (At n) = valid n
-of_fit Out = Unfit
+abbrev pub of_fit : Option ℕ → Option Sample
+of_fit (Some n) = valid n
+of_fit None = None
 
 -- types 1 and 2, which have limits and differences
 unfoldable pub is_measured : ℕ → Bool
@@ -54,15 +50,15 @@ fresh t = invalid t 0
 
 -- "A reading is an integer, a float, a boolean, an option .. or a timestamp, or one of failure, unreachable, inactive": at a sensor of type t
 -- with so many options
-unfoldable pub sample_of : ℕ → ℕ → Reading → Sampled
+unfoldable pub sample_of : ℕ → ℕ → Reading → Option Sample
 sample_of t options (Integer x) = only_for t 1 (of_integer x)
 sample_of t options (Float x) = only_for t 2 (of_fit (exact1024 x))
 sample_of t options (Boolean b) = only_for t 3 (below 2 b)
-sample_of t options (Option i) = only_for t 4 (below options i)
+sample_of t options (Choice i) = only_for t 4 (below options i)
 sample_of t options (Timestamp m) = only_for t 5 (below 10000000000000 m)
-sample_of t options Failure = As (invalid t 2)
-sample_of t options Unreachable = As (invalid t 3)
-sample_of t options Inactive = As (invalid t 4)
+sample_of t options Failure = Some (invalid t 2)
+sample_of t options Unreachable = Some (invalid t 3)
+sample_of t options Inactive = Some (invalid t 4)
 
 -- a stored number of a valid value of type t: "Integers are signed 32-bit", "within ±1,048,576", "Boolean: 0, 1", a place in the list of options, a time
 unfoldable pub number_fits : ℕ → ℕ → ℕ → Bool

@@ -2,13 +2,13 @@
 //! strategy read from their text.
 #![tactic(auto)]
 
-ghost use Rattle.std.specs.Prelude.{◌≡◌, cond, ◌*◌, ◌^◌, ◌<◌, ◌≤◌, eqb, take};
+ghost use Rattle.std.specs.Prelude.{◌≡◌, cond, ◌*◌, ◌^◌, ◌<◌, ◌≤◌, eqb, take, Some, None};
 ghost use Rattle.std.specs.Float.{binary64};
 ghost use Rattle.std.specs.Float.Ieee.{of_bits};
 ghost use Rattle.output.specs.Output.{output, Wrote};
 ghost use Rattle.message.specs.Message.{arg};
 ghost use Rattle.value.specs.Double.{exact1024, whole_of, within, within_signed};
-ghost use Rattle.value.specs.Integer.{biased_integer, signed32, word};
+ghost use Rattle.value.specs.Integer.{biased_integer, signed_in};
 ghost use Rattle.value.specs.Reading.{valid, below, of_fit, invalid, only_for, sample_of, is_measured, zero_of};
 ghost use Rattle.value.specs.Status.{range_status, status_of, status_text};
 ghost use Rattle.value.specs.Value.{value_text};
@@ -35,30 +35,23 @@ const SIGN: u64 = 0x8000_0000_0000_0000;
 // The implicit bit above its fraction.
 const IMPLICIT: u64 = 0x10_0000_0000_0000;
 
-// A number of 1024ths plus 2^30, or nothing that fits.
-#[derive(Clone, Copy)]
-pub enum Fit {
-    At(u32),
-    Out,
-}
-
 // n 1024ths, negative or not.
-fn fit_size(negative: bool, n: u64) -> Fit
+fn fit_size(negative: bool, n: u64) -> Option<u32>
     ensures { result ≡ within negative n }
 {
     if output::FLOAT_ZERO < n {
-        return Fit::Out;
+        return None;
     }
     // at most 2^30, so the cast loses nothing
     let size = n as u32;
     if negative {
-        return Fit::At(FLOAT_ZERO - size);
+        return Some(FLOAT_ZERO - size);
     }
-    Fit::At(FLOAT_ZERO + size)
+    Some(FLOAT_ZERO + size)
 }
 
 // digits / 2^shift 1024ths, if whole.
-fn fit_whole(negative: bool, digits: u64, shift: u64) -> Fit
+fn fit_whole(negative: bool, digits: u64, shift: u64) -> Option<u32>
     ensures { result ≡ whole_of negative digits (2 ^ shift) }
 {
     if 63 < shift {
@@ -66,18 +59,18 @@ fn fit_whole(negative: bool, digits: u64, shift: u64) -> Fit
         if digits == 0 {
             return fit_size(negative, 0);
         }
-        return Fit::Out;
+        return None;
     }
     let unit: u64 = 1 << shift;
     let rest = digits % unit;
     if rest == 0 {
         return fit_size(negative, digits / unit);
     }
-    Fit::Out
+    None
 }
 
 // The double of this bit pattern, of a NaN's too.
-fn fit_bits(bits: u64) -> Fit
+fn fit_bits(bits: u64) -> Option<u32>
     ensures { result ≡ exact1024 (of_bits binary64 bits) }
 {
     let negative = SIGN <= bits;
@@ -87,20 +80,19 @@ fn fit_bits(bits: u64) -> Fit
         return fit_whole(negative, digits, 1064);
     }
     if 1043 < field {
-        return Fit::Out;
+        return None;
     }
     fit_whole(negative, IMPLICIT + digits, 1065 - field)
 }
 
 // The reading of a double: an exact multiple of 1/1024 within ±1,048,576.
-pub fn exact_1024ths(x: f64) -> Fit
+pub fn exact_1024ths(x: f64) -> Option<u32>
     ensures { result ≡ exact1024 x }
 {
-    if x != x {
-        return Fit::Out;
+    if x.is_nan() {
+        return None;
     }
-    let bits: u64 = f64::to_bits(x);
-    fit_bits(bits)
+    fit_bits(x.to_bits())
 }
 
 // A signed integer plus 2^31.
@@ -110,31 +102,19 @@ pub fn biased_integer(x: i32) -> u64
     (x as i64 + INTEGER_ZERO) as u64
 }
 
-// Four bytes of a sheet, a signed big-endian number, plus 2^31: the sign bit turned over.
-pub fn biased_word(a: u8, b: u8, c: u8, d: u8) -> u64
-    ensures { result ≡ biased_integer (signed32 (word a b c d)) }
+// Four bytes of a sheet, a signed big-endian number, plus 2^31.
+pub fn biased_word(bytes: [u8; 4]) -> u64
+    ensures { result ≡ biased_integer (signed_in bytes) }
 {
-    let high = (a as u64) * 16777216 + (b as u64) * 65536;
-    let bits = high + (c as u64) * 256 + (d as u64);
-    if bits < output::INTEGER_ZERO {
-        return bits + output::INTEGER_ZERO;
-    }
-    bits - output::INTEGER_ZERO
+    biased_integer(i32::from_be_bytes(bytes))
 }
 
 // Four bytes of a sheet, a signed big-endian number of 1024ths.
-pub fn grid_word(a: u8, b: u8, c: u8, d: u8) -> Fit
-    ensures { result ≡ within_signed (signed32 (word a b c d)) }
+pub fn grid_word(bytes: [u8; 4]) -> Option<u32>
+    ensures { result ≡ within_signed (signed_in bytes) }
 {
-    let n = biased_word(a, b, c, d);
-    if n < output::FLOAT_ZERO {
-        return Fit::Out;
-    }
-    let count = n - output::FLOAT_ZERO;
-    if MOST_FLOAT < count {
-        return Fit::Out;
-    }
-    Fit::At(count as u32)
+    let n = i32::from_be_bytes(bytes);
+    fit_size(n < 0, n.unsigned_abs() as u64)
 }
 
 // What a sensor can say.
@@ -152,84 +132,62 @@ pub enum Reading {
 }
 
 // A kind, 0 unknown, 1 valid, 2 failure, 3 unreachable, 4 inactive, and a stored number.
+// kept: the kind, a sensor's type and a status are bytes and no enums, since the C interface hands in states and may hold any byte there: the
+// check of a state refuses the others.
 #[derive(Clone, Copy)]
 pub struct Sample {
     pub kind: u8,
     pub number: u64,
 }
 
-#[derive(Clone, Copy)]
-pub enum Sampled {
-    As(Sample),
-    Unfit,
-}
-
-fn valid_sample(number: u64) -> Sampled
+fn valid_sample(number: u64) -> Option<Sample>
     ensures { result ≡ valid number }
 {
-    Sampled::As(Sample {
+    Some(Sample {
         kind: 1,
         number: number,
     })
 }
 
 // A number that must be below a limit.
-fn sample_below(limit: u64, n: u64) -> Sampled
+fn sample_below(limit: u64, n: u64) -> Option<Sample>
     ensures { result ≡ below limit n }
 {
     if n < limit {
         return valid_sample(n);
     }
-    Sampled::Unfit
+    None
 }
 
-fn float_sample(x: f64) -> Sampled
+fn float_sample(x: f64) -> Option<Sample>
     ensures { result ≡ of_fit (exact1024 x) }
 {
-    let Fit::At(n) = exact_1024ths(x) else {
-        return Sampled::Unfit;
-    };
-    valid_sample(n as u64)
+    valid_sample(exact_1024ths(x)? as u64)
 }
 
 // Whether a type has limits and differences: integer and float.
+#[tactic(auto, unfolding(crate::specs::Reading::is_measured))]
 pub fn is_measured(kind: u8) -> bool
     ensures { result ≡ is_measured kind }
 {
-    match kind {
-        1 => true,
-        2 => true,
-        3 => false,
-        4 => false,
-        5 => false,
-        _ => false,
-    }
+    matches!(kind, 1 | 2)
 }
 
 // Whether a type has options: discrete.
 pub fn is_discrete(kind: u8) -> bool
     ensures { result ≡ eqb kind 4 }
 {
-    match kind {
-        1 => false,
-        2 => false,
-        3 => false,
-        4 => true,
-        5 => false,
-        _ => false,
-    }
+    matches!(kind, 4)
 }
 
 // The stored number of a type's zero.
+#[tactic(auto, unfolding(crate::specs::Reading::zero_of))]
 pub fn zero_of(kind: u8) -> u64
     ensures { result ≡ zero_of kind }
 {
     match kind {
         1 => output::INTEGER_ZERO,
         2 => output::FLOAT_ZERO,
-        3 => 0,
-        4 => 0,
-        5 => 0,
         _ => 0,
     }
 }
@@ -245,17 +203,17 @@ pub fn invalid_sample(kind: u8, code: u8) -> Sample
 }
 
 // A sample of another type is unfit.
-fn only_for(kind: u8, wanted: u8, sampled: Sampled) -> Sampled
+fn only_for(kind: u8, wanted: u8, sampled: Option<Sample>) -> Option<Sample>
     ensures { result ≡ only_for kind wanted sampled }
 {
     if kind == wanted {
         return sampled;
     }
-    Sampled::Unfit
+    None
 }
 
 // A reading at a sensor of this type with so many options.
-pub fn sample_of(kind: u8, options: u8, reading: Reading) -> Sampled
+pub fn sample_of(kind: u8, options: u8, reading: Reading) -> Option<Sample>
     ensures { result ≡ sample_of kind options reading }
 {
     match reading {
@@ -264,9 +222,9 @@ pub fn sample_of(kind: u8, options: u8, reading: Reading) -> Sampled
         Reading::Boolean(b) => only_for(kind, 3, sample_below(2, b as u64)),
         Reading::Option(i) => only_for(kind, 4, sample_below(options as u64, i as u64)),
         Reading::Timestamp(m) => only_for(kind, 5, sample_below(TIMES, m)),
-        Reading::Failure => Sampled::As(invalid_sample(kind, 2)),
-        Reading::Unreachable => Sampled::As(invalid_sample(kind, 3)),
-        Reading::Inactive => Sampled::As(invalid_sample(kind, 4)),
+        Reading::Failure => Some(invalid_sample(kind, 2)),
+        Reading::Unreachable => Some(invalid_sample(kind, 3)),
+        Reading::Inactive => Some(invalid_sample(kind, 4)),
     }
 }
 
@@ -294,21 +252,21 @@ fn range_status(l: Limits, n: u64) -> u8
 }
 
 // The status of a sample: 0 unknown, 1 nominal, 2 warn, 3 error, 4 failure, 5 unreachable, 6 inactive.
+#[tactic(auto, unfolding(crate::specs::Status::status_of))]
 pub fn status_of(l: Limits, s: Sample) -> u8
     ensures { result ≡ status_of l s }
 {
-    let kind = s.kind;
-    match kind {
+    match s.kind {
         0 => 0,
         1 => range_status(l, s.number),
         2 => 4,
         3 => 5,
-        4 => 6,
         _ => 6,
     }
 }
 
 // The word of a status as an argument.
+#[tactic(auto, unfolding(crate::specs::Status::status_text))]
 pub fn put_arg_status(out: &mut [u8], at: usize, status: u8) -> usize
     ensures { Wrote (output out.old at) (arg (status_text status)) (output out.new result) }
 {
@@ -319,12 +277,12 @@ pub fn put_arg_status(out: &mut [u8], at: usize, status: u8) -> usize
         3 => message::put_arg(out, at, b"error"),
         4 => message::put_arg(out, at, b"failure"),
         5 => message::put_arg(out, at, b"unreachable"),
-        6 => message::put_arg(out, at, b"inactive"),
         _ => message::put_arg(out, at, b"inactive"),
     }
 }
 
 // The text of the stored number `n` of a type as an argument. A discrete value is the option that it names, `len` bytes of `option`.
+#[tactic(auto, unfolding(crate::specs::Value::value_text))]
 pub fn put_arg_value(
     out: &mut [u8],
     at: usize,
@@ -340,16 +298,8 @@ pub fn put_arg_value(
         2 => message::put_arg_float(out, at, n),
         3 => message::put_arg_decimal(out, at, n),
         4 => message::put_arg_prefix(out, at, option, len),
-        5 => message::put_arg_time(out, at, n),
         _ => message::put_arg_time(out, at, n),
     }
-}
-
-// A parameter of a strategy: its number, or that the text is none.
-#[derive(Clone, Copy)]
-pub enum Parameter {
-    Is(u64),
-    Bad,
 }
 
 // Digits before the point, without leading zeros.
@@ -374,58 +324,54 @@ fn fraction_ok(s: &[u8]) -> bool
 }
 
 // A plain decimal with at most `places` fraction digits, counted in units of 10^-places, from `least` to `most`.
-fn read_decimal(t: &[u8], places: usize, least: u64, most: u64) -> Parameter
+fn read_decimal(t: &[u8], places: usize, least: u64, most: u64) -> Option<u64>
     requires { most < 18446744073709551615 }
-    ensures { result ≡ cond (decimal_ok places least most t.now) (Parameter.Is (units places t.now)) Parameter.Bad }
+    ensures { result ≡ cond (decimal_ok places least most t.now) (Some (units places t.now)) None }
 {
     let whole = texts::digits(t);
     let behind = texts::behind_digits(t);
     let plain = whole_ok(whole) & fraction_ok(behind);
     if !plain {
-        return Parameter::Bad;
+        return None;
     }
     let fraction = texts::rest(behind, 1);
     if places < fraction.len() {
-        return Parameter::Bad;
+        return None;
     }
     let above = most + 1;
     let digits = numbers::both_value(whole, fraction, above);
     let number = numbers::with_zeros(digits, places - fraction.len(), above);
     if (number < least) | (most < number) {
-        return Parameter::Bad;
+        return None;
     }
-    Parameter::Is(number)
+    Some(number)
 }
 
 // A difference of integers, in millionths.
-pub fn read_integer_difference(t: &[u8]) -> Parameter
+pub fn read_integer_difference(t: &[u8]) -> Option<u64>
     ensures { result ≡ integer_difference_of t.now }
 {
-    let Parameter::Is(n) = read_decimal(t, 0, 0, 4294967295) else {
-        return Parameter::Bad;
-    };
-    Parameter::Is(n * output::MILLIONTHS)
+    let n = read_decimal(t, 0, 0, 4294967295)?;
+    Some(n * output::MILLIONTHS)
 }
 
 // A difference of floats, in millionths.
-pub fn read_float_difference(t: &[u8]) -> Parameter
+#[tactic(auto, unfolding(crate::specs::Parameter::float_difference_of))]
+pub fn read_float_difference(t: &[u8]) -> Option<u64>
     ensures { result ≡ float_difference_of t.now }
 {
-    let numbers::Number::Is(n) = scientific::read_millionths(t) else {
-        return Parameter::Bad;
-    };
-    Parameter::Is(n)
+    scientific::read_millionths(t)
 }
 
 // A period, in milliseconds.
-pub fn read_period(t: &[u8]) -> Parameter
+pub fn read_period(t: &[u8]) -> Option<u64>
     ensures { result ≡ period_of t.now }
 {
     read_decimal(t, 3, 1, LONGEST_PERIOD)
 }
 
 // A shortest period, which may be 0, in milliseconds.
-pub fn read_shortest(t: &[u8]) -> Parameter
+pub fn read_shortest(t: &[u8]) -> Option<u64>
     ensures { result ≡ shortest_of t.now }
 {
     read_decimal(t, 3, 0, LONGEST_PERIOD)

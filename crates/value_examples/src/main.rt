@@ -1,34 +1,26 @@
 //! Texts through the readers of parameters, and doubles through the reading of floats. For each line of standard input it prints what the
 //! line is as an integer difference, a float difference, a period and a shortest period (`19` where it is none), each written again; and of
-//! a line of 16 hex digits, the text of the double with these bits as a reading of a float sensor (`10` where it is unfit). A function that prints
-//! answers whether all was taken.
+//! a line of 16 hex digits, the text of the double with these bits as a reading of a float sensor (`10` where it is unfit).
 #![tactic(auto)]
-
-ghost use Rattle.std.specs.Prelude.{◌≡◌};
 
 use std::io::Write;
 use std::rt::HostRuntime;
-use value::{Parameter, Reading, Sampled};
+use stream::Unwritten;
+use value::Reading;
 
-fn print_difference<W: Write>(to: &mut W, p: Parameter, whole: bool) -> bool {
-    let mut out = [0u8; 32];
-    let Parameter::Is(d) = p else {
+// A parameter written again by `put`, `19` where it is none.
+fn print_parameter<W: Write, F: FnOnce(&mut [u8], usize, u64) -> usize>(
+    to: &mut W,
+    parameter: Option<u64>,
+    put: F,
+) -> Result<(), Unwritten>
+    requires { F.IsAlwaysCallable put }
+{
+    let Some(x) = parameter else {
         return stream::print(to, b"19");
     };
-    if whole {
-        let n = output::put_whole_difference(&mut out, 0, d);
-        return stream::print(to, texts::prefix(&out, n));
-    }
-    let n = output::put_difference(&mut out, 0, d);
-    stream::print(to, texts::prefix(&out, n))
-}
-
-fn print_period<W: Write>(to: &mut W, p: Parameter) -> bool {
     let mut out = [0u8; 32];
-    let Parameter::Is(ms) = p else {
-        return stream::print(to, b"19");
-    };
-    let n = output::put_time(&mut out, 0, ms);
+    let n = put(&mut out, 0, x);
     stream::print(to, texts::prefix(&out, n))
 }
 
@@ -40,92 +32,51 @@ fn double_of(bits: u64) -> f64 {
     f64::from_bits(bits)
 }
 
-fn print_double<W: Write>(to: &mut W, bits: u64) -> bool {
-    let mut out = [0u8; 32];
+fn print_double<W: Write>(to: &mut W, bits: u64) -> Result<(), Unwritten> {
     let reading = Reading::Float(double_of(bits));
-    let Sampled::As(s) = value::sample_of(2, 0, reading) else {
+    let Some(s) = value::sample_of(2, 0, reading) else {
         return stream::print(to, b"10");
     };
+    let mut out = [0u8; 32];
     let n = output::put_float(&mut out, 0, s.number);
     stream::print(to, texts::prefix(&out, n))
 }
 
-// The number of a hex digit, 16 for any other byte.
-fn hex_digit(b: u8) -> u64 {
-    if b < b'0' {
-        return 16;
-    }
-    if b <= b'9' {
-        return wide(b - b'0');
-    }
-    if b < b'a' {
-        return 16;
-    }
-    if b <= b'f' {
-        return wide(b - b'a') + 10;
-    }
-    16
-}
-
-fn wide(b: u8) -> u64
-    ensures { result ≡ b }
-{
-    b as u64
-}
-
-// Whether s is 16 hex digits.
-fn is_hex(s: &[u8]) -> bool {
-    let mut ok = s.len() == 16;
-    let mut i = 0;
-    while i < s.len() {
-        ok = ok & (hex_digit(s[i]) < 16);
-        i += 1;
-    }
-    ok
-}
-
-// The last 64 bits of the number that hex digits make.
-fn hex_value(s: &[u8]) -> u64 {
-    let mut n: u64 = 0;
-    let mut i = 0;
-    while i < s.len() {
-        n = n % 0x1000_0000_0000_0000 * 16 + hex_digit(s[i]) % 16;
-        i += 1;
-    }
-    n
-}
-
 // The double of a line of hex digits, behind a space.
-fn show_double<W: Write>(to: &mut W, text: &[u8]) -> bool {
-    if is_hex(text) {
-        return stream::print(to, b" ") && print_double(to, hex_value(text));
-    }
-    true
+fn show_double<W: Write>(to: &mut W, text: &[u8]) -> Result<(), Unwritten> {
+    let Some(bits) = in_hex::read_bits(text) else {
+        return Ok(());
+    };
+    stream::print(to, b" ")?;
+    print_double(to, bits)
 }
 
-fn show<W: Write>(to: &mut W, text: &[u8]) -> bool {
-    print_difference(to, value::read_integer_difference(text), true)
-        && stream::print(to, b" ")
-        && print_difference(to, value::read_float_difference(text), false)
-        && stream::print(to, b" ")
-        && print_period(to, value::read_period(text))
-        && stream::print(to, b" ")
-        && print_period(to, value::read_shortest(text))
-        && show_double(to, text)
-        && stream::print(to, b"\n")
+fn show<W: Write>(to: &mut W, text: &[u8]) -> Result<(), Unwritten> {
+    print_parameter(
+        to,
+        value::read_integer_difference(text),
+        output::put_whole_difference,
+    )?;
+    stream::print(to, b" ")?;
+    print_parameter(
+        to,
+        value::read_float_difference(text),
+        output::put_difference,
+    )?;
+    stream::print(to, b" ")?;
+    print_parameter(to, value::read_period(text), output::put_time)?;
+    stream::print(to, b" ")?;
+    print_parameter(to, value::read_shortest(text), output::put_time)?;
+    show_double(to, text)?;
+    stream::print(to, b"\n")
 }
 
-// Whether all was printed.
-fn show_lines<W: Write>(to: &mut W, s: &[u8]) -> bool {
-    let mut at = 0;
-    while at < s.len() {
-        let e = at + texts::len_before(&s[at..], 10);
-        if !show(to, &s[at..e]) {
-            return false;
-        }
-        at = e + 1;
+// Each line, the last one too where it has no end.
+fn show_lines<W: Write>(to: &mut W, s: &[u8]) -> Result<(), Unwritten> {
+    for piece in s.split_inclusive(|b| *b == b'\n') {
+        show(to, piece.strip_suffix(b"\n").unwrap_or(piece))?;
     }
-    true
+    Ok(())
 }
 
 fn main(rt: HostRuntime) {
@@ -133,7 +84,7 @@ fn main(rt: HostRuntime) {
     let errors = &mut rt.stderr();
     let mut input = io::large_buffer();
     let n = stream::read_input(&mut rt.stdin(), errors, &mut input);
-    if !show_lines(to, &input[..n]) {
+    if show_lines(to, &input[..n]).is_err() {
         stream::say_unwritten(errors);
     }
 }

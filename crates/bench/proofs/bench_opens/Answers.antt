@@ -14,15 +14,15 @@ use Rattle.bench.proofs.bench_opens.Goals as goal
 abbrev opens : List ℕ → Bool
 opens sheet = eqb (opened (start_of 0 sheet)).number 0
 
-pub loop-k-init : goal.loop-k-init
-loop-k-init c = (omega arith, none_yet (opens c.args.sheet.now))
+pub loop-init : goal.loop-init
+loop-init c = (omega arith, none_yet (opens c.args.sheet.now))
 
 pub counted-taken-requires : goal.counted-taken-requires
-counted-taken-requires c = omega (arith, at_most_lem (opens c.args.sheet.now) c.loop-k.k c.loop-k.invariant.1)
+counted-taken-requires c = omega (arith, at_most_lem (opens c.args.sheet.now) c.loop.counter c.loop.invariant.1)
 
-pub loop-k-preserved : goal.loop-k-preserved
-loop-k-preserved c = (omega arith, one_more (opens c.args.sheet.now) c.loop-k.k (ap (λ (x : Opened). eqb x.number 0) c.open-device.ensures) c.loop-k.invariant.1 c.counted-taken.ensures.0)
+pub loop-preserved : goal.loop-preserved
+loop-preserved c = (omega arith, one_more (opens c.args.sheet.now) c.loop.counter (ap (λ (x : Opened). eqb x.number 0) c.open-device.ensures) c.loop.invariant.1 c.counted-taken.ensures.0)
 
 pub returns : goal.returns
-returns c = let e : c.loop-k.k ≡ c.args.n = omega arith in
-    rw (← e) c.loop-k.invariant.1
+returns c = let e : c.loop.counter ≡ c.args.n = omega arith in
+    rw (← e) c.loop.invariant.1

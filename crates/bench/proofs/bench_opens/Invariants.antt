@@ -1,5 +1,5 @@
 -- After k turns the count is k where the sheet opens, else 0.
-use Prim.Native.Nat.{ℕ, ◌≤◌, ◌-◌}
+use Prim.Native.Nat.{ℕ, ◌≤◌}
 use mathlib.Core.Path.{◌≡◌}
 use mathlib.Core.Bool.{Bool, cond}
 use mathlib.Core.List.{List}
@@ -11,8 +11,5 @@ use Rattle.bench.proofs.bench_opens.Given as goal
 abbrev opens : List ℕ → Bool
 opens sheet = eqb (opened (start_of 0 sheet)).number 0
 
-abbrev pub invariant-loop-k : goal.invariant-loop-k
-invariant-loop-k l = (l.k ≤ l.n) × (l.taken ≡ cond (opens l.sheet) l.k 0)
-
-abbrev pub decreases-loop-k : goal.decreases-loop-k
-decreases-loop-k l = l.n - l.k
+abbrev pub invariant-loop : goal.invariant-loop
+invariant-loop l = (l.counter ≤ l.n) × (l.taken ≡ cond (opens l.sheet) l.counter 0)

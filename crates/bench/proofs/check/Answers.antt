@@ -5,15 +5,15 @@ use Rattle.machine.specs.Range.{in_range}
 use Rattle.bench.proofs.RunLaws.{at_most_lem, none_yet, one_more}
 use Rattle.bench.proofs.check.Goals as goal
 
-pub loop-k-init : goal.loop-k-init
-loop-k-init c = (omega arith, none_yet (in_range c.args.state))
+pub loop-init : goal.loop-init
+loop-init c = (omega arith, none_yet (in_range c.args.state))
 
 pub counted-passed-requires : goal.counted-passed-requires
-counted-passed-requires c = omega (arith, at_most_lem (in_range c.args.state) c.loop-k.k c.loop-k.invariant.1)
+counted-passed-requires c = omega (arith, at_most_lem (in_range c.args.state) c.loop.counter c.loop.invariant.1)
 
-pub loop-k-preserved : goal.loop-k-preserved
-loop-k-preserved c = (omega arith, one_more (in_range c.args.state) c.loop-k.k c.in_range.ensures c.loop-k.invariant.1 c.counted-passed.ensures.0)
+pub loop-preserved : goal.loop-preserved
+loop-preserved c = (omega arith, one_more (in_range c.args.state) c.loop.counter c.in_range.ensures c.loop.invariant.1 c.counted-passed.ensures.0)
 
 pub returns : goal.returns
-returns c = let e : c.loop-k.k ≡ c.args.n = omega arith in
-    rw (← e) c.loop-k.invariant.1
+returns c = let e : c.loop.counter ≡ c.args.n = omega arith in
+    rw (← e) c.loop.invariant.1

@@ -11,6 +11,6 @@ pub returns-then-refused : goal.returns-then-refused
 unfolding client_declined
 returns-then-refused c = rw (le-ltb _ _ (rw c.last_client.ensures at c.if-last_client-client.false), c.if-refused.true)
 
-pub returns-else-refused : goal.returns-else-refused
+pub returns : goal.returns
 unfolding client_declined
-returns-else-refused c = rw (le-ltb _ _ (rw c.last_client.ensures at c.if-last_client-client.false), c.if-refused.false)
+returns c = rw (le-ltb _ _ (rw c.last_client.ensures at c.if-last_client-client.false), c.if-refused.false)

@@ -1,6 +1,5 @@
 -- The answer by its parts.
-use mathlib.Core.Path.{refl}
 use Rattle.declining.proofs.silent.Goals as goal
 
 pub returns : goal.returns
-returns c = refl
+returns c = rw c.number.ensures

@@ -1,14 +1,10 @@
 -- Nothing where no client is there; else the reason, as it stands in the buffer.
-use borrow.Author.Tests.{not-true, not-false}
+use borrow.Author.Tests.{not-false}
 use mathlib.Core.Path.{ap, sym}
 use mathlib.Core.Bool.{not}
 use lib.Seq.{length-take-le}
-use Rattle.message.proofs.DeliveryLaws.{none_sent}
 use Rattle.device.proofs.ReasonLaws.{Reason, reason}
 use Rattle.device.proofs.displace.Goals as goal
-
-pub returns-then-not-there : goal.returns-then-not-there
-returns-then-not-there c = rw (not-true c.args.there (ap not c.if-not-there.true)) none_sent
 
 pub slice_bounds-why-end : goal.slice_bounds-why-end
 slice_bounds-why-end c = let told : Reason c.args.address.now c.put_bytes-n.new.out c.put_bytes-n.result = reason c.requires c.put_bytes-p.ensures c.put_bytes-n.ensures in

@@ -1,13 +1,17 @@
--- The invariant: the clients passed have the entry. The measure is the clients that are left.
+-- The clients passed have the entry.
 use native.Mathlib.Omega.{arith}
-use Rattle.informs.proofs.ServedLaws.{serving, serving_on, served}
+use Rattle.informs.proofs.ServedLaws.{serving, serving_told, serving_passed, served}
 use Rattle.informs.proofs.entry_to_all.Goals as goal
+use Rattle.informs.proofs.entry_to_all.Goals.{then-client, else-client}
 
 pub loop-c-init : goal.loop-c-init
 loop-c-init c = serving _ _ _
 
 pub loop-c-preserved : goal.loop-c-preserved
-loop-c-preserved c = serving_on c.loop-c.invariant (omega arith) c.entry_if-at.ensures
+loop-c-preserved c = elim c.if-client.branch [
+  | then-client w ↦ rw (w.out-is, w.at-is) (serving_told c.loop-c.invariant (omega arith) w.if-client.true w.deliver_entry-at.ensures)
+  | else-client w ↦ rw (w.out-is, w.at-is) (serving_passed c.loop-c.invariant (omega arith) w.if-client.false)
+]
 
 pub returns : goal.returns
 returns c = served c.loop-c.invariant (omega arith)

@@ -1,5 +1,4 @@
--- The invariant: the clients passed have the inform. The measure is the clients that are left.
-use Prim.Native.Nat.{◌-◌}
+-- The clients passed have the inform.
 use mathlib.Core.Bool.{not, ◌&&◌}
 use mathlib.Core.List.{[], ◌∷◌}
 use lib.Dec.{eqb}
@@ -11,7 +10,4 @@ use Rattle.informs.proofs.ServedLaws.{Serving}
 use Rattle.informs.proofs.inform_others.Given as goal
 
 abbrev pub invariant-loop-c : goal.invariant-loop-c
-invariant-loop-c l = Serving (λ k. (get_or l.clients k no_client).connected && not (eqb k l.but)) (inform l.name (l.a ∷ [])) (output l.initial.out l.at) l.c (output l.out l.p)
-
-abbrev pub decreases-loop-c : goal.decreases-loop-c
-decreases-loop-c l = 8 - l.c
+invariant-loop-c l = Serving (λ k. (get_or l.fn.clients k no_client).connected && not (eqb k l.but)) (inform l.name (l.a ∷ [])) (output l.initial.out l.at) l.c (output l.out l.p)

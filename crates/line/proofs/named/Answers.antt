@@ -1,9 +1,9 @@
 -- A name that is too long, empty or starts with no letter is refused; else the identifier decides.
+use Rattle.std.specs.Prelude.{None, Some}
 use borrow.Author.Rules.{rules}
 use mathlib.Core.Path.{sym, ap, ◌∙◌}
 use native.Mathlib.Omega.{arith}
 use Rattle.output.proofs.RunLaws.{run_le}
-use Rattle.line.specs.declared.Identifier.TheVariants.{Bad, Is}
 use Rattle.line.specs.Line.{title_byte, id_of}
 use Rattle.texts.proofs.At.{to_end}
 use Rattle.line.proofs.HeadLaws as H
@@ -27,8 +27,8 @@ slice_bounds-id_of-count c = omega (arith, run_le title_byte c.args.t.now, c.nam
 pub slice_bounds-id_of-start : goal.slice_bounds-id_of-start
 slice_bounds-id_of-start c = omega (arith, run_le title_byte c.args.t.now, c.name_len-n.ensures)
 
-pub returns-in_default : goal.returns-in_default
-returns-in_default c = H.decides c.args.t.now c.args.kind c.args.count c.name_len-n.result c.name_len-n.ensures (omega arith) c.if-n-eq0.false (sym c.is_letter.ensures ∙ c.if-not-is_letter.false) Bad (sym c.in_default.is ∙ c.id_of.ensures ∙ ap id_of (to_end c.args.t.now c.name_len-n.result))
+pub returns-in_err-id : goal.returns-in_err-id
+returns-in_err-id c = c.from_residual.ensures ∙ H.decides c.args.t.now c.args.kind c.args.count c.name_len-n.result c.name_len-n.ensures (omega arith) c.if-n-eq0.false (sym c.is_letter.ensures ∙ c.if-not-is_letter.false) None (sym c.in_err-id.was ∙ c.id_of.ensures ∙ ap id_of (to_end c.args.t.now c.name_len-n.result))
 
 pub returns : goal.returns
-returns c = H.decides c.args.t.now c.args.kind c.args.count c.name_len-n.result c.name_len-n.ensures (omega arith) c.if-n-eq0.false (sym c.is_letter.ensures ∙ c.if-not-is_letter.false) (Is c.in-Is.id) (sym c.in-Is.is ∙ c.id_of.ensures ∙ ap id_of (to_end c.args.t.now c.name_len-n.result))
+returns c = H.decides c.args.t.now c.args.kind c.args.count c.name_len-n.result c.name_len-n.ensures (omega arith) c.if-n-eq0.false (sym c.is_letter.ensures ∙ c.if-not-is_letter.false) (Some c.in_ok-id.id) (sym c.in_ok-id.was ∙ c.id_of.ensures ∙ ap id_of (to_end c.args.t.now c.name_len-n.result))

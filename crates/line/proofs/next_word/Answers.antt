@@ -1,20 +1,17 @@
--- The blanks from a position on, and the word behind them.
-use borrow.Author.Rules.{rules}
+-- The blanks, and the word behind them.
 use native.Mathlib.Omega.{arith}
-use Rattle.line.proofs.WordLaws.{lead_fits, word_fits, next}
+use mathlib.Core.Path.{◌≡◌, ap}
+use lib.ListN.{length, drop, length-drop}
+use Rattle.line.specs.Answer.{lead}
+use Rattle.line.proofs.WordLaws.{no_next, next, fits}
 use Rattle.line.proofs.next_word.Goals as goal
 
-pub overflow_add-a : goal.overflow_add-a
-overflow_add-a c = omega (arith, lead_fits c.args.s.now c.args.from c.lead.result c.requires c.lead.ensures)
+pub returns-then-n-eq0 : goal.returns-then-n-eq0
+returns-then-n-eq0 c = no_next c.args.s.now (rw (c.rest-start.ensures, c.lead.ensures)) c.word_len-n.ensures c.if-n-eq0.true
 
-pub slice_bounds-word_len-count : goal.slice_bounds-word_len-count
-slice_bounds-word_len-count c = search (lead_fits, rules)
-
-pub slice_bounds-word_len-start : goal.slice_bounds-word_len-start
-slice_bounds-word_len-start c = search (lead_fits, rules)
-
-pub overflow_add-e : goal.overflow_add-e
-overflow_add-e c = omega (arith, word_fits c.args.s.now _ c.lead.result c.requires c.lead.ensures c.word_len.result c.word_len.ensures)
+pub split_at-requires : goal.split_at-requires
+split_at-requires c = fits c.args.s.now (rw (c.rest-start.ensures, c.lead.ensures)) c.word_len-n.ensures
 
 pub returns : goal.returns
-returns c = search (next, rules)
+returns c = let start : c.rest-start.result.now ≡ drop (lead c.args.s.now) c.args.s.now = rw (c.rest-start.ensures, c.lead.ensures) in
+    (rw (c.split_at.ensures.front, c.split_at.ensures.back) (next c.args.s.now start c.word_len-n.ensures c.if-n-eq0.false), omega (arith, c.split_at.ensures.back_len, c.if-n-eq0.false, ap length start, length-drop (lead c.args.s.now) c.args.s.now))

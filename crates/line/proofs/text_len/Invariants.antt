@@ -1,12 +1,12 @@
--- The bytes counted, and the text that the word from i on stands for, are as long as the text of the whole.
-use Prim.Native.Nat.{◌+◌, ◌-◌, ◌≤◌}
+-- The bytes counted, and the text that what is left stands for, are as long as the text of the whole.
+use Prim.Native.Nat.{◌+◌, ◌≤◌}
 use mathlib.Core.Path.{◌≡◌}
-use lib.ListN.{length, drop}
+use lib.ListN.{length}
 use Rattle.line.specs.Line.{unescape}
 use Rattle.line.proofs.text_len.Given as goal
 
-abbrev pub invariant-loop-i : goal.invariant-loop-i
-invariant-loop-i l = (l.i ≤ length l.w) × (l.n ≤ l.i) × (l.n + length (unescape (drop l.i l.w)) ≡ length (unescape l.w))
+abbrev pub invariant-loop-meaning : goal.invariant-loop-meaning
+invariant-loop-meaning l = (l.n + length l.left ≤ length l.w) × (l.n + length (unescape l.left) ≡ length (unescape l.w))
 
-abbrev pub decreases-loop-i : goal.decreases-loop-i
-decreases-loop-i l = length l.w - l.i
+abbrev pub decreases-loop-meaning : goal.decreases-loop-meaning
+decreases-loop-meaning l = length l.left

@@ -1,12 +1,11 @@
--- What the definition says of the word from i on is what it says of the whole.
-use Prim.Native.Nat.{◌-◌, ◌≤◌}
+-- What the definition says of what is left is what it says of the whole.
 use mathlib.Core.Path.{◌≡◌}
-use lib.ListN.{length, drop}
+use lib.ListN.{length}
 use Rattle.line.specs.Line.{valid}
 use Rattle.line.proofs.valid.Given as goal
 
-abbrev pub invariant-loop-i : goal.invariant-loop-i
-invariant-loop-i l = (l.i ≤ length l.w) × (valid (drop l.i l.w) ≡ valid l.w)
+abbrev pub invariant-loop-left : goal.invariant-loop-left
+invariant-loop-left l = valid l.left ≡ valid l.w
 
-abbrev pub decreases-loop-i : goal.decreases-loop-i
-decreases-loop-i l = length l.w - l.i
+abbrev pub decreases-loop-left : goal.decreases-loop-left
+decreases-loop-left l = length l.left

@@ -11,11 +11,11 @@ use Rattle.names.proofs.every_place.Goals as goal
 
 pub loop-j-init : goal.loop-j-init
 unfolding tabulate
-loop-j-init c = (omega arith, refl)
+loop-j-init c = refl
 
 pub loop-j-preserved : goal.loop-j-preserved
-loop-j-preserved c = (omega arith, rw c.loop-j.invariant.1 (filled_one (λ j. j) (replicate 32 0) c.loop-j.j (omega arith)))
+loop-j-preserved c = rw c.loop-j.invariant (filled_one (λ j. j) (replicate 32 0) c.loop-j.j (omega (arith, c.sensors_in-most.ensures)))
 
 pub returns : goal.returns
 returns c = let e : c.loop-j.j ≡ min c.args.count 32 = omega (arith, c.sensors_in-most.ensures) in
-    rw (c.loop-j.invariant.1, e, c.sensors_in-most.ensures) (listing_of 0 (min c.args.count 32) (tabulate (λ j. j) (min c.args.count 32)) (sym (length-tabulate (λ j. j) (min c.args.count 32))))
+    rw (c.loop-j.invariant, e, c.sensors_in-most.ensures) (listing_of (min c.args.count 32) (tabulate (λ j. j) (min c.args.count 32)) (sym (length-tabulate (λ j. j) (min c.args.count 32))))

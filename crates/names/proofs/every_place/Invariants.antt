@@ -1,5 +1,4 @@
 -- The places passed are written, the others are zero.
-use Prim.Native.Nat.{◌-◌, ◌≤◌}
 use mathlib.Core.Path.{◌≡◌}
 use mathlib.Core.List.{◌++◌}
 use lib.ListN.{drop, replicate}
@@ -7,7 +6,4 @@ use Rattle.machine.specs.Places.{tabulate}
 use Rattle.names.proofs.every_place.Given as goal
 
 abbrev pub invariant-loop-j : goal.invariant-loop-j
-invariant-loop-j l = (l.j ≤ l.most) × (l.places ≡ tabulate (λ j. j) l.j ++ drop l.j (replicate 32 0))
-
-abbrev pub decreases-loop-j : goal.decreases-loop-j
-decreases-loop-j l = l.most - l.j
+invariant-loop-j l = l.places ≡ tabulate (λ j. j) l.j ++ drop l.j (replicate 32 0)

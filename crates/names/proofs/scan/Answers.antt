@@ -1,71 +1,34 @@
--- The names passed are known, and what is listed of them and what the rest names are what the whole names; of the sensors passed none has the
--- name at hand.
+-- What is listed of the names passed and what the rest names are what the whole names.
 use borrow.Author.Rules.{rules}
-use Prim.Native.Nat.{◌+◌, ◌-◌, ◌≤◌, ◌<◌}
-use native.Mathlib.Omega.{arith}
-use mathlib.Core.Path.{◌≡◌, sym, ◌∙◌}
-use lib.ListN.{length, take, drop}
-use Rattle.names.specs.Scan.{held, place_in}
-use Rattle.names.proofs.ScanLaws.{searching, searching_on, searching_found, searching_none, scanning, name_inside, known, scanning_on, scanning_unknown, scanning_end}
+use borrow.Author.Tests.{tests}
+use mathlib.Core.Path.{◌≡◌}
+use lib.Dec.{eqb}
+use lib.ListN.{length}
+use Rattle.std.proofs.lemmas.Iterator.Consumers.{YieldsList-turn, YieldsList-end}
+use Rattle.std.proofs.lemmas.Iterator.Splits.{YieldsList-from_slice_split}
+use Rattle.std.proofs.lemmas.List.{length_push}
+use Rattle.std.proofs.lemmas.Result.{MatchResult-weaker}
+use Rattle.names.proofs.ListingLaws.{gone_on_is}
+use Rattle.names.proofs.ScanLaws.{place_found, place_unknown, scanning, scanning_on, scanning_unknown, scanning_end}
 use Rattle.names.proofs.scan.Goals as goal
-use Rattle.names.proofs.scan.Goals.{else-sensors-test, then-sensors-test+then-has_name}
 
 pub names-init : goal.names-init
-names-init c = scanning _ _ c.no_places-list.ensures
+names-init c = scanning _ _ c.no_places.ensures
 
-pub overflow_add-to : goal.overflow_add-to
-overflow_add-to c = let inside : c.names.from + c.first_len.result ≤ length c.args.names.now = name_inside c.names.invariant c.names-test.true c.first_len.ensures in
-    let k = inside in search rules
-
-pub sensors-init : goal.sensors-init
-sensors-init c = searching _ _
-
-pub slice_bounds-has_name-start : goal.slice_bounds-has_name-start
-slice_bounds-has_name-start c = let inside : c.names.from + c.first_len.result ≤ length c.args.names.now = name_inside c.names.invariant c.names-test.true c.first_len.ensures in
-    let k = inside in search rules
-
-pub slice_bounds-has_name-end : goal.slice_bounds-has_name-end
-slice_bounds-has_name-end c = let inside : c.names.from + c.first_len.result ≤ length c.args.names.now = name_inside c.names.invariant c.names-test.true c.first_len.ensures in
-    let k = inside in search rules
-
-pub sensors-preserved : goal.sensors-preserved
-sensors-preserved c = searching_on c.sensors.invariant (sym c.has_name.ensures ∙ c.if-has_name.false) (omega arith)
-
-pub with_place-list-requires : goal.with_place-list-requires
-with_place-list-requires c = let place_is : c.sensors.j ≡ place_in c.args.sheet (take (c.names.from + c.first_len.result - c.names.from) (drop c.names.from c.args.names.now)) =
-    elim c.sensors-test.branch [
-      | else-sensors-test w ↦ searching_none c.sensors.invariant (omega (arith, c.sensors_in-most.ensures))
-      | then-sensors-test+then-has_name w ↦
-          searching_found c.sensors.invariant (sym w.has_name.ensures ∙ w.if-has_name.true) (omega (arith, w.sensors-test.true, c.sensors_in-most.ensures))
-    ]
-    in
-    let on_sheet : c.sensors.j < held c.args.sheet = known c.names.invariant c.names-test.true c.first_len.ensures place_is (λ e. c.if-j-most.false (e ∙ sym c.sensors_in-most.ensures)) in
-    (c.names.invariant.fit, omega (arith, on_sheet))
-
-pub overflow_add-from : goal.overflow_add-from
-overflow_add-from c = let inside : c.names.from + c.first_len.result ≤ length c.args.names.now = name_inside c.names.invariant c.names-test.true c.first_len.ensures in
-    let k = inside in search rules
+pub returns-in_default : goal.returns-in_default
+returns-in_default c =
+    let t = YieldsList-turn (YieldsList-from_slice_split _ (λ b. eqb b 44) c.args.names.now (cc) (cc) (cc) (λ x b q k. search (rules, tests))) c.names.yielded _ c.names.yielded_by _ _ c.in-Some.name c.in-Some.is c.next.ensures.steps in
+    let whole : length c.args.sheet.sensors ≡ 32 = search rules in
+    scanning_unknown c.names.invariant t (place_unknown c.args.sheet c.in-Some.name.now whole c.sensors_in-most.ensures c.place_named.ensures c.in_default.is)
 
 pub names-preserved : goal.names-preserved
-names-preserved c = let place_is : c.sensors.j ≡ place_in c.args.sheet (take (c.names.from + c.first_len.result - c.names.from) (drop c.names.from c.args.names.now)) =
-    elim c.sensors-test.branch [
-      | else-sensors-test w ↦ searching_none c.sensors.invariant (omega (arith, c.sensors_in-most.ensures))
-      | then-sensors-test+then-has_name w ↦
-          searching_found c.sensors.invariant (sym w.has_name.ensures ∙ w.if-has_name.true) (omega (arith, w.sensors-test.true, c.sensors_in-most.ensures))
-    ]
-    in
-    let on_sheet : c.sensors.j < held c.args.sheet = known c.names.invariant c.names-test.true c.first_len.ensures place_is (λ e. c.if-j-most.false (e ∙ sym c.sensors_in-most.ensures)) in
-    scanning_on c.names.invariant c.names-test.true c.first_len.ensures place_is c.with_place-list.ensures on_sheet
+names-preserved c =
+    let t = YieldsList-turn (YieldsList-from_slice_split _ (λ b. eqb b 44) c.args.names.now (cc) (cc) (cc) (λ x b q k. search (rules, tests))) c.names.yielded _ c.names.yielded_by _ _ c.in-Some.name c.in-Some.is c.next.ensures.steps in
+    let whole : length c.args.sheet.sensors ≡ 32 = search rules in
+    scanning_on c.names.invariant t (place_found c.args.sheet c.in-Some.name.now whole c.sensors_in-most.ensures c.place_named.ensures c.in-Some-place_named.is)
+    (gone_on_is c.names.list c.and_then-list.result c.in-Some-place_named.j (MatchResult-weaker c.names.list c.and_then-list.ensures (λ l p. search rules) (λ r e. e))) (length_push c.names.yielded c.in-Some.name)
 
-pub returns-after-names : goal.returns-after-names
-returns-after-names c = scanning_end c.names.invariant (omega arith)
-
-pub returns-then-j-most : goal.returns-then-j-most
-returns-then-j-most c = let place_is : c.sensors.j ≡ place_in c.args.sheet (take (c.names.from + c.first_len.result - c.names.from) (drop c.names.from c.args.names.now)) =
-    elim c.sensors-test.branch [
-      | else-sensors-test w ↦ searching_none c.sensors.invariant (omega (arith, c.sensors_in-most.ensures))
-      | then-sensors-test+then-has_name w ↦
-          searching_found c.sensors.invariant (sym w.has_name.ensures ∙ w.if-has_name.true) (omega (arith, w.sensors-test.true, c.sensors_in-most.ensures))
-    ]
-    in
-    c.no_places-list-then-j-most.ensures ∙ scanning_unknown c.names.invariant c.names-test.true c.first_len.ensures place_is (c.if-j-most.true ∙ c.sensors_in-most.ensures)
+pub returns-in-None : goal.returns-in-None
+returns-in-None c =
+    let t = YieldsList-end (YieldsList-from_slice_split _ (λ b. eqb b 44) c.args.names.now (cc) (cc) (cc) (λ x b q k. search (rules, tests))) c.names.yielded _ c.names.yielded_by _ _ c.in-None.is c.next.ensures.steps in
+    scanning_end c.names.invariant t.1

@@ -1,7 +1,8 @@
 -- Each arm writes the word that `type_text` has for its number.
+use Prim.Native.Nat.{◌≤◌}
+use native.Mathlib.Omega.{arith}
 use lib.ListN.{get_or-eq_default}
 use Rattle.output.specs.Text.{text}
-use Rattle.output.proofs.TableLaws.{past_all}
 use Rattle.machine.specs.Messages.{type_text}
 use Rattle.replies.proofs.put_arg_type.Goals as goal
 
@@ -25,10 +26,7 @@ pub returns-in-4 : goal.returns-in-4
 unfolding type_text
 returns-in-4 c = rw c.in-4.is c.put_arg-in-4.ensures
 
-pub returns-in-5 : goal.returns-in-5
-unfolding type_text
-returns-in-5 c = rw c.in-5.is c.put_arg-in-5.ensures
-
 pub returns-in_default : goal.returns-in_default
 unfolding type_text
-returns-in_default c = rw (get_or-eq_default _ (text "timestamp") (past_all 5 c.args.kind c.in_default.in_default-own.rest.0)) c.put_arg-in_default.ensures
+returns-in_default c = let past : 5 ≤ c.args.kind = omega arith in
+    rw (get_or-eq_default _ (text "timestamp") past) c.put_arg-in_default.ensures

@@ -1,4 +1,4 @@
--- The invariant: the options passed are written. The measure is the options that are left.
+-- The invariant: the options passed are written.
 use native.Mathlib.Omega.{arith}
 use mathlib.Core.Path.{◌≡◌}
 use borrow.Author.Rules.{rules}
@@ -12,8 +12,8 @@ unfolding tabulate
 loop-k-init c = search rules
 
 pub loop-k-preserved : goal.loop-k-preserved
-loop-k-preserved c = (omega arith, next_arg (option_of c.args.sensor) _ c.loop-k.invariant.1 (rw c.option_at-option.ensures at c.put_arg_prefix-p.ensures))
+loop-k-preserved c = next_arg (option_of c.args.sensor) _ c.loop-k.invariant (rw c.option_at-option.ensures at c.put_arg_prefix-p.ensures)
 
 pub returns : goal.returns
-returns c = let end : c.loop-k.k ≡ c.args.sensor.option_count = omega (arith, c.loop-k.invariant.0) in
-    rw end at c.loop-k.invariant.1
+returns c = let end : c.loop-k.k ≡ c.args.sensor.option_count = omega arith in
+    rw end at c.loop-k.invariant

@@ -14,20 +14,20 @@ returns-in_default c = let none = malformed_is (parse c.args.line.now) (sym c.re
     as_given (ap (λ (p : Parse). line_effect c.args.state c.args.client (asked_by p)) none ∙ malformed_effect c.args.state c.args.client) c.complain.ensures
 
 pub returns-then-head-eq35 : goal.returns-then-head-eq35
-returns-then-head-eq35 c = let read = sym c.read.ensures ∙ c.in-Message.is in
+returns-then-head-eq35 c = let read = sym c.read.ensures ∙ c.in-Some.is in
     let kind = sym (kind_is c.args.line.now _ read) in
     as_given (read_effect c.args.state c.args.client c.args.line.now read ∙ inform_effect c.args.state c.args.client (message_of c.args.line.now) (kind ∙ c.if-head-eq35.true)) (nothing_given c.args.state c.args.out.now c.answered.ensures)
 
 pub returns-then-head-eq33 : goal.returns-then-head-eq33
-returns-then-head-eq33 c = let read = sym c.read.ensures ∙ c.in-Message.is in
+returns-then-head-eq33 c = let read = sym c.read.ensures ∙ c.in-Some.is in
     let kind = sym (kind_is c.args.line.now _ read) in
     as_given (read_effect c.args.state c.args.client c.args.line.now read ∙ reply_effect c.args.state c.args.client (message_of c.args.line.now) (kind ∙ c.if-head-eq33.true)) c.complain-then-head-eq33.ensures
 
 pub answer_request-requires : goal.answer_request-requires
-answer_request-requires c = let read = sym c.read.ensures ∙ c.in-Message.is in
+answer_request-requires c = let read = sym c.read.ensures ∙ c.in-Some.is in
     record { in_range_lem = c.requires.0; client = c.requires.1; read = read }
 
 pub returns : goal.returns
-returns c = let read = sym c.read.ensures ∙ c.in-Message.is in
+returns c = let read = sym c.read.ensures ∙ c.in-Some.is in
     let kind = kind_is c.args.line.now _ read in
     as_given (read_effect c.args.state c.args.client c.args.line.now read ∙ request_effect_lem c.args.state c.args.client (message_of c.args.line.now) (λ e. c.if-head-eq35.false (kind ∙ e)) (λ e. c.if-head-eq33.false (kind ∙ e))) c.answer_request.ensures

@@ -9,4 +9,4 @@ use Rattle.request.proofs.log_level.Goals as goal
 
 pub returns : goal.returns
 unfolding answer
-returns c = rw (← c.level_asked-level.ensures) (replies c.args.line.now c.args.head c.requires c.name-name.ensures (with_level c.args.state c.level_asked-level.result) c.args.client (text "ok" ∷ level_text c.level_asked-level.result ∷ []) c.deliver_level-written.ensures c.answered.ensures)
+returns c = rw (← c.level_asked-level.ensures) (replies c.args.asked.line.now c.args.asked.head c.args.asked.read c.name-name.ensures (with_level c.args.state c.level_asked-level.result) c.args.client (text "ok" ∷ level_text c.level_asked-level.result ∷ []) c.deliver_level-written.ensures c.answered.ensures)

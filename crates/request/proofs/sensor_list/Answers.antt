@@ -4,28 +4,22 @@ use Rattle.machine.specs.Messages.{sensor_inform}
 use Rattle.machine.specs.Requests.{answer}
 use Rattle.machine.specs.Declined.{arguments_declined}
 use Rattle.request.specs.Reading.{message_of}
-use Rattle.request.proofs.TellLaws.{Asks, few_sensors, asks, list_long, tells_asked}
+use Rattle.request.proofs.TellLaws.{Asks, few_sensors, told, asks, tells_asked}
 use Rattle.request.proofs.sensor_list.Goals as goal
 
-pub sensors_told-list-requires : goal.sensors_told-list-requires
-sensors_told-list-requires c = (c.requires.heard.read, few_sensors c.args.state c.requires.heard.in_range_lem)
+pub sensors_told-requires : goal.sensors_told-requires
+sensors_told-requires c = few_sensors c.args.state c.requires.heard.in_range_lem
 
-pub slice_bounds-places-end : goal.slice_bounds-places-end
+pub unwrap-list-requires : goal.unwrap-list-requires
 unfolding arguments_declined
-slice_bounds-places-end c = let asked : Asks c.args.state.sheet (message_of c.args.line.now) c.sensors_told-list.result = asks c.args.state (message_of c.args.line.now) c.requires.heard.in_range_lem c.requires.fits c.sensors_told-list.ensures in
-    asked.inside
-
-pub slice_bounds-tell_sensors-end : goal.slice_bounds-tell_sensors-end
-unfolding arguments_declined
-slice_bounds-tell_sensors-end c = let asked : Asks c.args.state.sheet (message_of c.args.line.now) c.sensors_told-list.result = asks c.args.state (message_of c.args.line.now) c.requires.heard.in_range_lem c.requires.fits c.sensors_told-list.ensures in
-    list_long asked
+unwrap-list-requires c = told c.args.state (message_of c.args.asked.line.now) c.requires.heard.in_range_lem c.requires.fits c.sensors_told.ensures
 
 pub tell_sensors-p-requires : goal.tell_sensors-p-requires
 unfolding arguments_declined
-tell_sensors-p-requires c = let asked : Asks c.args.state.sheet (message_of c.args.line.now) c.sensors_told-list.result = asks c.args.state (message_of c.args.line.now) c.requires.heard.in_range_lem c.requires.fits c.sensors_told-list.ensures in
-    asked.below
+tell_sensors-p-requires c = let asked : Asks c.args.state.sheet (message_of c.args.asked.line.now) c.unwrap-list.result = asks c.args.state (message_of c.args.asked.line.now) c.requires.heard.in_range_lem c.requires.fits c.sensors_told.ensures c.unwrap-list.ensures in
+    rw c.places.ensures asked.below
 
 pub returns : goal.returns
 unfolding answer arguments_declined
-returns c = let asked : Asks c.args.state.sheet (message_of c.args.line.now) c.sensors_told-list.result = asks c.args.state (message_of c.args.line.now) c.requires.heard.in_range_lem c.requires.fits c.sensors_told-list.ensures in
-    tells_asked c.args.line.now c.args.head c.requires.heard.read c.name-name.ensures c.args.state c.args.client (λ id j. sensor_inform id (sensor_of c.args.state.sheet j)) asked c.tell_sensors-p.ensures c.deliver_count-written.ensures c.answered.ensures
+returns c = let asked : Asks c.args.state.sheet (message_of c.args.asked.line.now) c.unwrap-list.result = asks c.args.state (message_of c.args.asked.line.now) c.requires.heard.in_range_lem c.requires.fits c.sensors_told.ensures c.unwrap-list.ensures in
+    tells_asked c.args.asked.line.now c.args.asked.head c.requires.heard.read c.name-name.ensures c.args.state c.args.client (λ id j. sensor_inform id (sensor_of c.args.state.sheet j)) asked c.places.ensures c.tell_sensors-p.ensures c.deliver_count-written.ensures c.answered.ensures

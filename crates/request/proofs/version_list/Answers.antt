@@ -8,4 +8,4 @@ use Rattle.request.proofs.version_list.Goals as goal
 
 pub returns : goal.returns
 unfolding answer
-returns c = tells c.args.line.now c.args.head c.requires c.name-name.ensures c.args.state c.args.client (λ id. map (version_inform id) (protocol_args c.args.state.sheet.profile ∷ device_args c.args.state.sheet ∷ [])) c.version_list-written.ensures refl c.answered.ensures
+returns c = tells c.args.asked.line.now c.args.asked.head c.args.asked.read c.name-name.ensures c.args.state c.args.client (λ id. map (version_inform id) (protocol_args c.args.state.sheet.profile ∷ device_args c.args.state.sheet ∷ [])) c.version_list-written.ensures refl c.answered.ensures

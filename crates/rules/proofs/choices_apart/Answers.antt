@@ -1,7 +1,14 @@
 -- Where the keys of the options stand once each, the options are apart.
-use mathlib.Core.Path.{sym, ◌∙◌}
-use Rattle.rules.proofs.KeyLaws.{choices_by_keys}
+use native.Mathlib.Omega.{arith}
+use mathlib.Core.Path.{◌≡◌, sym, ◌∙◌}
+use lib.ListN.{length}
+use borrow.Author.Rules.{rules}
+use Rattle.rules.proofs.KeyLaws.{choices_by_keys, once_each}
 use Rattle.rules.proofs.choices_apart.Goals as goal
 
 pub returns-then-keys_apart : goal.returns-then-keys_apart
-returns-then-keys_apart c = sym (choices_by_keys c.args.count c.args.options c.requires (rw c.choice_keys.ensures at (sym c.keys_apart.ensures ∙ c.if-keys_apart.true)))
+returns-then-keys_apart c =
+    let keys = c.choice_keys-keys.result in
+    let long : length keys ≡ 32 = search rules in
+    let once = once_each keys c.from.result c.keys_apart.result (omega arith) c.keys_apart.ensures in
+    sym (choices_by_keys c.args.count c.args.options.now c.requires (rw (c.choice_keys-keys.ensures, c.from.ensures) at (sym once ∙ c.if-keys_apart.true)))

@@ -1,5 +1,4 @@
--- The invariant: what is found is the test of each place below k. After the loop k is 8.
-use Prim.Native.Nat.{◌≤◌, ◌-◌}
+-- What is found is the test of each place passed.
 use mathlib.Core.Path.{◌≡◌}
 use lib.ListN.{get_or}
 use Rattle.machine.specs.Places.{all_below}
@@ -7,7 +6,4 @@ use Rattle.machine.specs.Sheet.{no_choice, choice_ok}
 use Rattle.rules.proofs.choices_ok.Given as goal
 
 abbrev pub invariant-loop-k : goal.invariant-loop-k
-invariant-loop-k l = (l.k ≤ 8) × (l.ok ≡ all_below (λ k. choice_ok l.count k (get_or l.options k no_choice)) l.k)
-
-abbrev pub decreases-loop-k : goal.decreases-loop-k
-decreases-loop-k l = 8 - l.k
+invariant-loop-k l = l.ok ≡ all_below (λ k. choice_ok l.count k (get_or l.options k no_choice)) l.k

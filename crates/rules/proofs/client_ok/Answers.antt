@@ -1,25 +1,17 @@
 -- The address of a connected client, and that of an unconnected one, which is empty.
-use native.Mathlib.Omega.{arith}
-use mathlib.Core.Path.{refl}
-use borrow.Author.Rules.{rules}
-use Rattle.machine.specs.Places.{tabulate}
+use mathlib.Core.Path.{◌≡◌, refl}
+use mathlib.Core.Bool.{Bool, true, false, cond}
+use Prim.Native.Nat.{ℕ}
+use mathlib.Core.List.{List}
+use Rattle.machine.specs.Sheet.{text_ok, graphic}
 use Rattle.machine.specs.Range.{client_ok}
-use Rattle.rules.specs.Texts.{up_to}
-use Rattle.rules.proofs.FillLaws.{counted}
 use Rattle.rules.proofs.client_ok.Goals as goal
 
-pub text_ok-requires : goal.text_ok-requires
-unfolding up_to tabulate
-text_ok-requires c = counted 48 (search rules) (omega arith) refl
-
-pub returns-then-client : goal.returns-then-client
-unfolding client_ok
-returns-then-client c = rw c.if-client.true c.text_ok.ensures
-
-pub text_ok-requires-2 : goal.text_ok-requires-2
-unfolding up_to tabulate
-text_ok-requires-2 c = counted 48 (search rules) (omega arith) refl
+-- by the bounds of an address, or by those of none
+by_bounds : (there : Bool) (n : ℕ) (bytes : List ℕ) → text_ok (cond there 1 0) (cond there 48 0) graphic n bytes ≡ cond there (text_ok 1 48 graphic n bytes) (text_ok 0 0 graphic n bytes)
+by_bounds true n bytes = refl
+by_bounds false n bytes = refl
 
 pub returns : goal.returns
 unfolding client_ok
-returns c = rw c.if-client.false c.text_ok-2.ensures
+returns c = let client = c.args.client in rw (c.text_ok.ensures, c.bound.ensures, c.bound-2.ensures) (by_bounds client.connected client.address_len client.address)

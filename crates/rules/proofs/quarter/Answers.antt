@@ -5,4 +5,4 @@ use Rattle.rules.proofs.quarter.Goals as goal
 
 pub returns : goal.returns
 unfolding quarter_at
-returns c = (cc, omega arith)
+returns c = (omega (arith, c.from_le_bytes.ensures), omega arith)

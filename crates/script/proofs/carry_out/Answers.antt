@@ -5,11 +5,11 @@ use Rattle.script.proofs.carry_out.Goals as goal
 
 pub returns-in-Passed : goal.returns-in-Passed
 unfolding asking answered left
-returns-in-Passed c = rw c.in-Passed.is (record { value = c.silent.ensures; out_after = refl })
+returns-in-Passed c = rw c.in-Passed.is (record { value = c.quiet.ensures; out_after = refl })
 
 pub returns-in-Wrong : goal.returns-in-Wrong
 unfolding asking answered left
-returns-in-Wrong c = rw c.in-Wrong.is (record { value = c.silent-in-Wrong.ensures; out_after = refl })
+returns-in-Wrong c = rw c.in-Wrong.is (record { value = c.quiet-in-Wrong.ensures; out_after = refl })
 
 pub returns-in-Open : goal.returns-in-Open
 unfolding asking answered left

@@ -35,7 +35,7 @@ returns-in_default-number_at c = rw (
   le-ltb 65536 (length c.args.line.now) c.requires,
   sym c.is_passed.ensures ∙ c.if-is_passed.false,
   rw (c.is_opening.ensures, c.has_bytes.ensures) at c.if-is_opening-has_bytes.false,
-  sym c.number_at.ensures ∙ c.in-Is.is,
+  sym c.number_at.ensures ∙ c.in-Some.is,
   sym c.number_at-2.ensures ∙ c.in_default-number_at.is,
 )
 
@@ -45,6 +45,6 @@ returns c = rw (
   le-ltb 65536 (length c.args.line.now) c.requires,
   sym c.is_passed.ensures ∙ c.if-is_passed.false,
   rw (c.is_opening.ensures, c.has_bytes.ensures) at c.if-is_opening-has_bytes.false,
-  sym c.number_at.ensures ∙ c.in-Is.is,
-  sym c.number_at-2.ensures ∙ c.in-Is-number_at.is,
+  sym c.number_at.ensures ∙ c.in-Some.is,
+  sym c.number_at-2.ensures ∙ c.in-Some-number_at.is,
 ) c.called.ensures

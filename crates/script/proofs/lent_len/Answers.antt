@@ -10,8 +10,8 @@ returns-in_default c = rw (sym c.number_at.ensures ∙ c.in_default.is) (omega a
 
 pub returns-then-n-len : goal.returns-then-n-len
 unfolding lent_by
-returns-then-n-len c = rw (sym c.number_at.ensures ∙ c.in-Is.is) (omega arith)
+returns-then-n-len c = rw (sym c.number_at.ensures ∙ c.in-Some.is) (omega arith)
 
 pub returns-else-n-len : goal.returns-else-n-len
 unfolding lent_by
-returns-else-n-len c = rw (sym c.number_at.ensures ∙ c.in-Is.is) (omega arith)
+returns-else-n-len c = rw (sym c.number_at.ensures ∙ c.in-Some.is) (omega arith)

@@ -9,7 +9,7 @@ pub returns-in_default : goal.returns-in_default
 returns-in_default c = sym (ap opening (sym c.profile_at.ensures ∙ c.in_default.is))
 
 pub overflow_cast-result : goal.overflow_cast-result
-overflow_cast-result c = omega (arith, profile_within c.args.line.now c.in-Is.profile (sym c.profile_at.ensures ∙ c.in-Is.is))
+overflow_cast-result c = omega (arith, profile_within c.args.line.now c.in-Some.profile (sym c.profile_at.ensures ∙ c.in-Some.is))
 
 pub returns : goal.returns
-returns c = sym (ap opening (sym c.profile_at.ensures ∙ c.in-Is.is))
+returns c = sym (ap opening (sym c.profile_at.ensures ∙ c.in-Some.is))

@@ -7,12 +7,12 @@ returns-in_default c = rw (sym (rw (c.word.ensures, c.word-2.ensures) at c.readi
 
 pub returns-in_default-time_at : goal.returns-in_default-time_at
 returns-in_default-time_at c = rw (
-  sym (rw (c.word.ensures, c.word-2.ensures) at c.reading_of.ensures) ∙ c.in-A.is,
+  sym (rw (c.word.ensures, c.word-2.ensures) at c.reading_of.ensures) ∙ c.in-Some.is,
   sym c.time_at.ensures ∙ c.in_default-time_at.is,
 )
 
 pub returns : goal.returns
 returns c = rw (
-  sym (rw (c.word.ensures, c.word-2.ensures) at c.reading_of.ensures) ∙ c.in-A.is,
-  sym c.time_at.ensures ∙ c.in-Is.is,
+  sym (rw (c.word.ensures, c.word-2.ensures) at c.reading_of.ensures) ∙ c.in-Some.is,
+  sym c.time_at.ensures ∙ c.in-Some-time_at.is,
 )

@@ -11,18 +11,6 @@ pub returns-in-2 : goal.returns-in-2
 unfolding difference_ok
 returns-in-2 c = rw c.in-2.is
 
-pub returns-in-3 : goal.returns-in-3
-unfolding difference_ok
-returns-in-3 c = rw c.in-3.is
-
-pub returns-in-4 : goal.returns-in-4
-unfolding difference_ok
-returns-in-4 c = rw c.in-4.is
-
-pub returns-in-5 : goal.returns-in-5
-unfolding difference_ok
-returns-in-5 c = rw c.in-5.is
-
 pub returns-in_default : goal.returns-in_default
 unfolding difference_ok
-returns-in_default c = rw (ne_eqb _ _ c.in_default.in_default-own.rest.0.0.0.0.1, ne_eqb _ _ c.in_default.in_default-own.rest.0.0.0.1)
+returns-in_default c = rw (ne_eqb _ _ c.in_default.in_default-own.rest.0.1, ne_eqb _ _ c.in_default.in_default-own.rest.1)

@@ -1,4 +1,4 @@
--- The invariant: the readings passed are those of a fresh device, the others are none. The measure is the places that are left.
+-- The readings passed are those of a fresh device, the others are none.
 use Prim.Native.Nat.{ℕ}
 use mathlib.Core.Path.{◌≡◌, refl}
 use native.Mathlib.Omega.{arith}
@@ -18,16 +18,14 @@ fresh_at sheet j = fresh_stored (ltb j sheet.count) (sensor_of sheet j).kind
 
 pub loop-j-init : goal.loop-j-init
 unfolding tabulate
-loop-j-init c = (omega arith, rw c.no_stored-readings.ensures)
+loop-j-init c = rw c.no_stored-readings.ensures
 
 pub loop-j-preserved : goal.loop-j-preserved
-loop-j-preserved c = (
-  omega arith,
-  rw (c.loop-j.invariant.1, c.fresh_stored.ensures)
-      (filled_one (fresh_at c.args.sheet) (replicate 32 no_stored) c.loop-j.j (omega arith)),
-)
+loop-j-preserved c =
+    rw (c.loop-j.invariant, c.fresh_stored.ensures, c.from-count.ensures)
+    (filled_one (fresh_at c.args.sheet) (replicate 32 no_stored) c.loop-j.j (omega arith))
 
 pub returns : goal.returns
 unfolding fresh_readings
 returns c = let e : c.loop-j.j ≡ 32 = omega arith in
-    rw (c.loop-j.invariant.1, e) (filled_all (fresh_at c.args.sheet) (replicate 32 no_stored) 32 refl)
+    rw (c.loop-j.invariant, e) (filled_all (fresh_at c.args.sheet) (replicate 32 no_stored) 32 refl)

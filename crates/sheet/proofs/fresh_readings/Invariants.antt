@@ -1,5 +1,5 @@
--- The invariant: the readings passed are those of a fresh device, the others are none. The measure is the places that are left.
-use Prim.Native.Nat.{ℕ, ◌≤◌, ◌-◌}
+-- The readings passed are those of a fresh device, the others are none.
+use Prim.Native.Nat.{ℕ}
 use mathlib.Core.Path.{◌≡◌}
 use mathlib.Core.List.{◌++◌}
 use lib.Dec.{ltb}
@@ -16,7 +16,4 @@ abbrev fresh_at : Sheet → ℕ → Stored
 fresh_at sheet j = fresh_stored (ltb j sheet.count) (sensor_of sheet j).kind
 
 abbrev pub invariant-loop-j : goal.invariant-loop-j
-invariant-loop-j l = (l.j ≤ 32) × (l.readings ≡ tabulate (fresh_at l.sheet) l.j ++ drop l.j (replicate 32 no_stored))
-
-abbrev pub decreases-loop-j : goal.decreases-loop-j
-decreases-loop-j l = 32 - l.j
+invariant-loop-j l = l.readings ≡ tabulate (fresh_at l.fn.sheet) l.j ++ drop l.j (replicate 32 no_stored)

@@ -1,4 +1,4 @@
--- The invariant: none of the clients passed is connected. The measure is the clients that are left.
+-- None of the clients passed is connected.
 use mathlib.Core.Path.{◌≡◌, refl}
 use native.Mathlib.Numerals.{add-one}
 use native.Mathlib.Omega.{arith}
@@ -6,14 +6,14 @@ use Rattle.machine.specs.Places.{all_below}
 use Rattle.machine.specs.Range.{no_clients}
 use Rattle.sheet.proofs.no_clients.Goals as goal
 
-pub loop-c-init : goal.loop-c-init
+pub loop-client-init : goal.loop-client-init
 unfolding all_below
-loop-c-init c = (omega arith, refl)
+loop-client-init c = refl
 
-pub loop-c-preserved : goal.loop-c-preserved
+pub loop-client-preserved : goal.loop-client-preserved
 unfolding all_below
-loop-c-preserved c = (omega arith, rw (add-one, c.loop-c.invariant.1))
+loop-client-preserved c = rw (add-one, c.loop-client.invariant)
 
 pub returns : goal.returns
 unfolding no_clients
-returns c = let e : c.loop-c.c ≡ 8 = omega arith in rw (c.loop-c.invariant.1, e)
+returns c = let e : c.loop-client.client-index ≡ 8 = omega arith in rw (c.loop-client.invariant, e)

@@ -1,5 +1,4 @@
--- The invariant: none of the clients passed is connected. The measure is the clients that are left.
-use Prim.Native.Nat.{◌≤◌, ◌-◌}
+-- None of the clients passed is connected.
 use mathlib.Core.Path.{◌≡◌}
 use mathlib.Core.Bool.{not}
 use lib.ListN.{get_or}
@@ -7,8 +6,5 @@ use Rattle.machine.specs.Places.{all_below}
 use Rattle.machine.specs.State.{no_client}
 use Rattle.sheet.proofs.no_clients.Given as goal
 
-abbrev pub invariant-loop-c : goal.invariant-loop-c
-invariant-loop-c l = (l.c ≤ 8) × (l.ok ≡ all_below (λ c. not (get_or l.clients c no_client).connected) l.c)
-
-abbrev pub decreases-loop-c : goal.decreases-loop-c
-decreases-loop-c l = 8 - l.c
+abbrev pub invariant-loop-client : goal.invariant-loop-client
+invariant-loop-client l = l.ok ≡ all_below (λ c. not (get_or l.fn.clients c no_client).connected) l.client-index

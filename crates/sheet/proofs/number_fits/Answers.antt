@@ -17,13 +17,9 @@ returns-in-3 c = rw c.in-3.is
 
 pub returns-in-4 : goal.returns-in-4
 unfolding number_fits
-returns-in-4 c = rw c.in-4.is
-
-pub returns-in-5 : goal.returns-in-5
-unfolding number_fits
-returns-in-5 c = rw c.in-5.is
+returns-in-4 c = rw (c.in-4.is, c.from.ensures)
 
 pub returns-in_default : goal.returns-in_default
 unfolding number_fits
-returns-in_default c = let n = c.in_default.in_default-own.rest.0 in
+returns-in_default c = let n = c.in_default.in_default-own.rest in
     rw (ne_eqb _ _ n.0.0.0.1, ne_eqb _ _ n.0.0.1, ne_eqb _ _ n.0.1, ne_eqb _ _ n.1)

@@ -1,4 +1,4 @@
--- The invariant: the readings passed fit. The measure is the places that are left.
+-- The readings passed fit.
 use mathlib.Core.Path.{◌≡◌, refl}
 use native.Mathlib.Numerals.{add-one}
 use native.Mathlib.Omega.{arith}
@@ -8,12 +8,12 @@ use Rattle.sheet.proofs.readings_ok.Goals as goal
 
 pub loop-j-init : goal.loop-j-init
 unfolding all_below
-loop-j-init c = (omega arith, refl)
+loop-j-init c = refl
 
 pub loop-j-preserved : goal.loop-j-preserved
 unfolding all_below stored_fits
-loop-j-preserved c = (omega arith, rw (add-one, c.loop-j.invariant.1, c.stored_ok-ok.ensures))
+loop-j-preserved c = rw (add-one, c.loop-j.invariant, c.stored_ok-ok.ensures, c.from-n.ensures)
 
 pub returns : goal.returns
 unfolding stored_fits
-returns c = let e : c.loop-j.j ≡ 32 = omega arith in rw (c.loop-j.invariant.1, e)
+returns c = let e : c.loop-j.j ≡ 32 = omega arith in rw (c.loop-j.invariant, e)

@@ -1,18 +1,16 @@
--- Whether one was found among the places so far. The measure is the places that are left.
-use native.Mathlib.Omega.{arith}
-use mathlib.Core.Path.{ap, ◌∙◌}
+-- Whether one of them is not measured.
+use borrow.Author.Rules.{rules}
+use borrow.Author.Tests.{tests}
+use mathlib.Core.Path.{◌∙◌}
 use mathlib.Core.Bool.{not}
+use Rattle.std.proofs.lemmas.Iterator.{YieldsList-from_slice}
+use Rattle.std.proofs.lemmas.Iterator.Search.{any_from_yields_List}
 use Rattle.value.specs.Reading.{is_measured}
-use Rattle.strategies.proofs.TypeLaws.{type_at}
-use Rattle.machine.proofs.FoundLaws.{found_none, found_on, found_all}
+use Rattle.machine.specs.Sheet.{sensor_of}
+use Rattle.machine.proofs.FoundLaws.{found_any}
 use Rattle.strategies.proofs.is_unmeasured.Goals as goal
 
-pub loop-k-init : goal.loop-k-init
-loop-k-init c = found_none _ _
-
-pub loop-k-preserved : goal.loop-k-preserved
-loop-k-preserved c = found_on c.loop-k.invariant 0 _ c.loop-k-test.true
-    (ap not (c.is_measured.ensures ∙ ap is_measured (c.type_if.ensures ∙ type_at c.args.sheet _ c.well_formed.0 _)))
-
 pub returns : goal.returns
-returns c = found_all c.loop-k.invariant (omega arith)
+returns c =
+    any_from_yields_List (λ j. not (is_measured (sensor_of c.args.sheet.now j).kind)) _ _ _ c.any.ensures.ran (YieldsList-from_slice c.args.places.now cc) (λ x b q k. search (rules, tests))
+    ∙ found_any _ c.args.places.now

@@ -1,17 +1,18 @@
--- Whether one was found among the places so far. The measure is the places that are left.
-use native.Mathlib.Omega.{arith}
-use Rattle.machine.specs.Requests.{difference_for}
-use Rattle.strategies.proofs.TypeLaws.{type_at}
-use Rattle.machine.proofs.FoundLaws.{found_none, found_on, found_all}
+-- Whether it is bad for one of them.
+use borrow.Author.Rules.{rules}
+use borrow.Author.Tests.{tests}
+use mathlib.Core.Path.{◌∙◌}
+use Rattle.std.proofs.lemmas.Iterator.{YieldsList-from_slice}
+use Rattle.std.proofs.lemmas.Iterator.Search.{any_from_yields_List}
+use Rattle.machine.specs.Sheet.{sensor_of}
+use Rattle.machine.specs.Requests.{is_bad, difference_for}
+use Rattle.machine.proofs.FoundLaws.{found_any}
+use Rattle.strategies.proofs.TypeLaws.{none_bad}
 use Rattle.strategies.proofs.is_unsuited.Goals as goal
 
-pub loop-k-init : goal.loop-k-init
-loop-k-init c = found_none _ _
-
-pub loop-k-preserved : goal.loop-k-preserved
-unfolding difference_for
-loop-k-preserved c = found_on c.loop-k.invariant 0 _ c.loop-k-test.true
-    (rw (c.is_bad-found.ensures, c.difference_for.ensures, c.type_if.ensures, type_at c.args.sheet _ c.well_formed.0 _))
-
 pub returns : goal.returns
-returns c = found_all c.loop-k.invariant (omega arith)
+unfolding difference_for
+returns c =
+    any_from_yields_List (λ j. is_bad (difference_for (sensor_of c.args.sheet.now j) c.args.text.now)) _ _ _ c.any.ensures.ran (YieldsList-from_slice c.args.places.now cc)
+    (λ x b q k. search (rules, tests, none_bad))
+    ∙ found_any _ c.args.places.now

@@ -5,11 +5,11 @@ use Rattle.stream.proofs.read_all.Goals as goal
 
 pub loop-from-preserved : goal.loop-from-preserved
 loop-from-preserved g c =
-    let read = c.read_behind-held-in-loop-from in
+    let read = c.in_ok-to-2.ensures in
     record {
-      forward = read.ensures.behind.forward;
-      fits = read.ensures.behind.fits;
+      forward = read.behind.forward;
+      fits = read.behind.fits;
       size = search rules;
-      bytes = given_more _ _ _ c.loop-from.buf read.new.buf c.loop-from.held.to read.result.to read.ensures.behind.forward read.ensures.behind.front c.loop-from.invariant.bytes read.ensures.bytes;
+      bytes = given_more _ _ _ c.loop-from.buf c.read_behind-in-loop-from.new.buf c.loop-from.to c.in_ok-to-2.to read.behind.forward read.behind.front c.loop-from.invariant.bytes read.bytes;
       end = search rules;
     }

@@ -1,6 +1,7 @@
 -- What a read brought is what stands behind the place.
-use Rattle.std.proofs.lemmas.List.{drop-take}
+use Rattle.std.proofs.Common.{rules}
+use Rattle.stream.proofs.KnownLaws.{given_there}
 use Rattle.stream.proofs.read_behind.Goals as goal
 
-pub returns-clause-bytes : goal.returns-clause-bytes
-returns-clause-bytes g c = rw (drop-take c.args.to c.in-Some.n c.loop-repeat.buf) (rw c.in-Some.is at c.loop-repeat.invariant.bytes)
+pub returns-then-not-again-clause-bytes : goal.returns-then-not-again-clause-bytes
+returns-then-not-again-clause-bytes g c = given_there _ _ _ c.read-answer.result c.args.to c.in-Ok.n c.loop.buf c.read-answer.new.buf c.in-Ok.is (search rules) (search rules) c.loop.invariant.bytes c.read-answer.ensures.bytes

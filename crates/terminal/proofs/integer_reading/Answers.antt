@@ -9,4 +9,4 @@ returns-in_default c = rw (← c.read_integer.ensures, c.in_default.is)
 
 pub returns : goal.returns
 unfolding fitting
-returns c = rw (← c.read_integer.ensures, c.in-Is.is) (search rules)
+returns c = rw (← c.read_integer.ensures, c.in-Some.is) (search rules)

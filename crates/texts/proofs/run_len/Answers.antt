@@ -1,17 +1,13 @@
--- The bytes before i, and what the definition counts from i on, are what it counts of the whole.
-use mathlib.Core.Path.{sym, ◌∙◌}
-use native.Mathlib.Omega.{arith}
-use Rattle.output.proofs.RunLaws.{run_stops, run_goes, run_over}
-use Rattle.texts.specs.Class.{in_class}
+-- The chain takes the bytes of the run, and counts them.
+use Rattle.std.proofs.Common.{rules, tests}
+use Rattle.std.proofs.lemmas.Iterator.{YieldsList-from_slice}
+use Rattle.std.proofs.lemmas.Iterator.Consumers.{count_from_yields_List}
+use Rattle.std.proofs.lemmas.Iterator.Search.{YieldsList-from_take_while}
+use Rattle.std.proofs.lemmas.List.Folds.{length-prefix_len}
+use mathlib.Core.Path.{◌∙◌}
+use Rattle.texts.proofs.ChainLaws.{prefix_run}
 use Rattle.texts.proofs.run_len.Goals as goal
 
-pub returns-then-not-in_class : goal.returns-then-not-in_class
-returns-then-not-in_class c = let a = c.args in
-    omega (arith, run_stops (in_class a.class) a.s.now c.loop-i.i (omega arith) (sym c.in_class.ensures ∙ c.if-not-in_class.true))
-
-pub loop-i-preserved : goal.loop-i-preserved
-loop-i-preserved c = let a = c.args in
-    omega (arith, run_goes (in_class a.class) a.s.now c.loop-i.i (omega arith) (sym c.in_class.ensures ∙ c.if-not-in_class.false))
-
 pub returns : goal.returns
-returns c = let a = c.args in omega (arith, run_over (in_class a.class) a.s.now c.loop-i.i (omega arith))
+returns g c test h = let s = c.args.s.now in
+    count_from_yields_List c.take_while.result _ c.count.ensures.ran (YieldsList-from_take_while _ test (YieldsList-from_slice s cc) c.take_while.ensures.closure c.take_while.ensures.done (λ x b q k. search (rules, tests))) ∙ length-prefix_len test s ∙ prefix_run test s

@@ -1,4 +1,5 @@
 -- Each arm chains what its calls ensure, and the reading is the arm's variant.
+use Rattle.std.specs.Prelude.{None}
 use lib.IntN.{ℤ}
 use mir.Syntax.{w32}
 use mir.ValLaws.{to_z-of_z}
@@ -6,7 +7,6 @@ use Rattle.value.specs.Integer.{biased_integer}
 use borrow.Author.Rules.{rules}
 use mathlib.Core.Path.{sym, ap, ◌∙◌}
 use mathlib.Core.Bool.{Bool, cond}
-use Rattle.value.specs.declared.Sampled.TheVariants.{Unfit}
 use Rattle.value.specs.Reading.{valid, only_for, sample_of}
 use Rattle.value.proofs.SignedLaws.{fits_signed32}
 use Rattle.value.proofs.sample_of.Goals as goal
@@ -17,7 +17,7 @@ returns-in-Integer c = let z = c.in-Integer.x in
     c.only_for.ensures
     ∙ ap (only_for c.args.kind 1) (c.valid_sample.ensures ∙ ap valid c.biased_integer.ensures)
     ∙ ap (λ (k : ℤ). only_for c.args.kind 1 (valid (biased_integer k))) (to_z-of_z w32 z (search rules))
-    ∙ ap (λ (k : Bool). only_for c.args.kind 1 (cond k (valid (biased_integer z)) Unfit)) (sym (fits_signed32 z (search rules)))
+    ∙ ap (λ (k : Bool). only_for c.args.kind 1 (cond k (valid (biased_integer z)) None)) (sym (fits_signed32 z (search rules)))
     ∙ sym (ap (sample_of c.args.kind c.args.options) c.in-Integer.is)
 
 pub returns-in-Float : goal.returns-in-Float

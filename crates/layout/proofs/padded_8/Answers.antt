@@ -1,7 +1,0 @@
--- The text stands at the start, and zeros behind it.
-use native.Mathlib.Omega.{arith}
-use Rattle.layout.proofs.TakenLaws.{pads}
-use Rattle.layout.proofs.padded_8.Goals as goal
-
-pub returns : goal.returns
-returns c = pads 8 c.put_bytes.ensures (omega arith)

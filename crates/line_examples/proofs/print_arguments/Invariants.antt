@@ -1,9 +1,0 @@
--- The count bounds the place.
-use Rattle.std.proofs.Common.{◌-◌, ◌≤◌}
-use Rattle.line_examples.proofs.print_arguments.Given as goal
-
-abbrev pub invariant-loop-k : goal.invariant-loop-k
-invariant-loop-k g l = l.k ≤ l.count
-
-abbrev pub decreases-loop-k : goal.decreases-loop-k
-decreases-loop-k g l = l.count - l.k
