@@ -2,85 +2,44 @@
 //! on, and prints its lines. An input line `@ n` ticks to n ms, `= s v` gives sensor s integer v, and every other line goes to the server.
 #![tactic(auto)]
 
-use input::Window;
-use machine::State;
+use machine::{Answer, State};
 use std::fs::File;
 use std::io::{Read, Write};
 use std::rt::HostRuntime;
-use stream::{ReadFault, Unwritten};
+use stream::{Lines, ReadFault, Unwritten};
 
-// Client 0's lines among the first `written` bytes of a call's output are printed.
-fn print_lines<W: Write>(to: &mut W, out: &[u8], written: usize) -> Result<(), Unwritten> {
-    let mut lines = io::large_buffer();
-    let n = terminal::put_shown(&mut lines, 0, 0, texts::prefix(out, written));
-    stream::print(to, texts::prefix(&lines, n))
+// The unit, where what client 0 is sent is printed, and the output that is lent to each call.
+#[derive(Drop)]
+struct Console<'a, W> {
+    state: State,
+    to: &'a mut W,
+    out: &'a mut [u8],
+}
+
+impl<W: Write> Console<'_, W> {
+    // What a call left: its state, and of what it wrote client 0's lines, which are printed.
+    fn take(&mut self, answer: Answer) -> Result<(), Unwritten> {
+        self.state = answer.state;
+        let to = &mut *self.to;
+        let out = &mut *self.out;
+        terminal::print_lines(to, texts::prefix(out, answer.written))
+    }
 }
 
 // An input line is carried out, and what the client is sent is printed.
-fn serve_line<W: Write>(
-    to: &mut W,
-    state: &mut State,
-    line: &[u8],
-    out: &mut [u8],
-) -> Result<(), Unwritten> {
-    let answer = terminal::perform(*state, line, out);
-    *state = answer.state;
-    print_lines(to, out, answer.written)
+impl<W: Write> Lines for Console<'_, W> {
+    fn line(&mut self, line: &[u8]) -> Result<(), Unwritten> {
+        let answer = terminal::perform(self.state, line, self.out);
+        self.take(answer)
+    }
+
+    fn pause(&mut self) -> Result<(), Unwritten> {
+        Ok(())
+    }
 }
 
-// The lines that end in `s` are carried out, up to one whose answer cannot be printed: how many bytes they have.
-fn serve_lines<W: Write>(
-    to: &mut W,
-    state: &mut State,
-    s: &[u8],
-    out: &mut [u8],
-) -> Result<usize, Unwritten> {
-    let mut rest = s;
-    while let Some(end) = rest.iter().position(|b| *b == b'\n') {
-        serve_line(to, state, &rest[..end], out)?;
-        rest = &rest[end + 1..];
-    }
-    Ok(s.len() - rest.len())
-}
-
-// To the end of the input, in at most 2^64 reads: an input need not end, and this does. Of a line that fills the buffer the first 2,049 bytes are
-// kept: it is too long whatever follows. A last line need not have an end. Where a read fails, what came of a line is not carried out.
-// kept: the loop also stands in `replay::replay`; one over a closure is no plainer, since each closure would hold the state and three or four lent
-// buffers, and the loop is what a reader of the program looks for.
-fn serve<R: Read, W: Write, E: Write>(
-    input: &mut R,
-    to: &mut W,
-    errors: &mut E,
-    state: &mut State,
-    buf: &mut [u8],
-    out: &mut [u8],
-) -> Result<(), Unwritten> {
-    let mut more = stream::refill(input, buf, Window { from: 0, to: 0 }, 2049);
-    for _ in 0..u64::MAX {
-        let Ok(came) = more else {
-            break;
-        };
-        if came.to <= came.from {
-            break;
-        }
-        let used = serve_lines(to, state, &buf[..came.to], out)?;
-        let pending = Window {
-            from: used,
-            to: came.to,
-        };
-        more = stream::refill(input, buf, pending, 2049);
-    }
-    let Ok(last) = more else {
-        stream::say_unread(errors);
-        return Ok(());
-    };
-    if last.to == 0 {
-        return Ok(());
-    }
-    serve_line(to, state, &buf[..last.to], out)
-}
-
-// Client 0 is connected to the unit, asks for info, and is served.
+// Client 0 is connected to the unit, asks for info, and is served. Of a line that fills the buffer the first 2,049 bytes are enough: it is too long
+// whatever follows.
 fn run<R: Read, W: Write, E: Write>(
     input: &mut R,
     to: &mut W,
@@ -88,13 +47,17 @@ fn run<R: Read, W: Write, E: Write>(
     unit: State,
 ) -> Result<(), Unwritten> {
     let mut out = io::large_buffer();
-    let connected = terminal::connect(unit, &mut out);
-    print_lines(to, &out, connected.written)?;
-    let asked = terminal::ask_info(connected.state, &mut out);
-    print_lines(to, &out, asked.written)?;
-    let mut state = asked.state;
+    let mut console = Console {
+        state: unit,
+        to: to,
+        out: &mut out,
+    };
+    let connected = terminal::connect(console.state, console.out);
+    console.take(connected)?;
+    let asked = terminal::ask_info(console.state, console.out);
+    console.take(asked)?;
     let mut buf = io::buffer();
-    serve(input, to, errors, &mut state, &mut buf, &mut out)
+    stream::for_each_line(input, &mut buf, 2049, &mut console, errors)
 }
 
 // The unit of a sheet's bytes.

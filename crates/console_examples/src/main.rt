@@ -10,13 +10,6 @@ use std::io::{Read, Write};
 use std::rt::{Files, HostRuntime};
 use stream::{ReadFault, Unwritten};
 
-// Client 0's lines among the first `written` bytes of a call's output are printed.
-fn print_lines<W: Write>(to: &mut W, out: &[u8], written: usize) -> Result<(), Unwritten> {
-    let mut lines = io::large_buffer();
-    let n = terminal::put_shown(&mut lines, 0, 0, texts::prefix(out, written));
-    stream::print(to, texts::prefix(&lines, n))
-}
-
 // An input line is carried out: the line, the number of its call, and what client 0 is sent.
 fn show<W: Write>(
     to: &mut W,
@@ -31,7 +24,7 @@ fn show<W: Write>(
     stream::print(to, b"\n")?;
     stream::print_decimal(to, u64::from(answer.number))?;
     stream::print(to, b"\n")?;
-    print_lines(to, out, answer.written)
+    terminal::print_lines(to, texts::prefix(out, answer.written))
 }
 
 // Each line, the last one too where it has no end.
@@ -58,9 +51,9 @@ fn run<R: Read, W: Write, E: Write>(
     let opened = device::open(0, sheet);
     let mut out = io::large_buffer();
     let connected = terminal::connect(opened.state, &mut out);
-    print_lines(to, &out, connected.written)?;
+    terminal::print_lines(to, texts::prefix(&out, connected.written))?;
     let asked = terminal::ask_info(connected.state, &mut out);
-    print_lines(to, &out, asked.written)?;
+    terminal::print_lines(to, texts::prefix(&out, asked.written))?;
     let mut state = asked.state;
     let mut buf = io::large_buffer();
     let n = stream::read_input(input, errors, &mut buf);

@@ -126,7 +126,7 @@ fn displace(there: bool, client: u8, address: &[u8], out: &mut [u8]) -> usize
     let mut why = [0; DISPLACED + machine::ADDRESS];
     let p = output::put_bytes(&mut why, 0, b"New client connected from ");
     let n = output::put_bytes(&mut why, p, address);
-    message::deliver_one(out, 0, client, b'#', b"disconnect", 0, &why[..n])
+    message::deliver(out, 0, client, b'#', b"disconnect", 0, &[&why[..n]])
 }
 
 // Under a single client's profile: the client that is there is displaced, and the newcomer told the versions.

@@ -1,1 +1,2 @@
+pub mod DoubleLaws
 pub mod HexLaws

@@ -2,6 +2,8 @@
 #![tactic(auto)]
 
 ghost use Rattle.std.specs.Prelude.{◌≡◌, ◌+◌, ◌*◌, ◌<◌, ◌≤◌, length};
+ghost use Rattle.std.specs.Float.{binary64};
+ghost use Rattle.std.specs.Float.Ieee.{of_bits};
 ghost use Rattle.output.specs.Output.{output, Wrote};
 ghost use Rattle.output.specs.Text.{all};
 ghost use Rattle.in_hex.specs.Hex as spec;
@@ -114,4 +116,14 @@ pub fn read_bits(t: &[u8]) -> Option<u64>
     ensures { result ≡ spec.bits_of t.now }
 {
     (t.len() == 16 && all_hex(t)).then(|| number_of(t))
+}
+
+// The double of this bit pattern, of a NaN's too.
+pub fn double_of(bits: u64) -> f64
+    ensures { result ≡ of_bits binary64 bits }
+{
+    if 0x7ff0_0000_0000_0000 < bits % 0x8000_0000_0000_0000 {
+        return 0.0 / 0.0;
+    }
+    f64::from_bits(bits)
 }

@@ -4,6 +4,7 @@
 
 ghost use Rattle.std.specs.Prelude.{◌≡◌, not, ◌&&◌, [], ◌∷◌, eqb, get_or};
 ghost use Rattle.output.specs.Output.{output, Wrote};
+ghost use Rattle.texts.specs.Table.{below};
 ghost use Rattle.message.specs.Message.{arg, line};
 ghost use Rattle.message.specs.Delivery.{to, Sent};
 ghost use Rattle.machine.specs.State.{no_client};
@@ -11,6 +12,7 @@ ghost use Rattle.machine.specs.Messages as messages;
 ghost use Rattle.machine.specs.Requests.{level_of};
 
 use machine::{Client, Sheet};
+use output::Notation;
 
 // The line of an inform on the device's API and build, from the start of out: its length.
 fn device_line(out: &mut [u8], name: &[u8], id: u64, sheet: Sheet) -> usize
@@ -56,9 +58,9 @@ fn deliver_protocol(
 {
     let part = b"katcp-protocol";
     if machine::is_single(profile) {
-        return message::deliver_two(out, at, client, b'#', name, id, part, b"5.1-IB");
+        return message::deliver(out, at, client, b'#', name, id, &[part, b"5.1-IB"]);
     }
-    message::deliver_two(out, at, client, b'#', name, id, part, b"5.1-MIB")
+    message::deliver(out, at, client, b'#', name, id, &[part, b"5.1-MIB"])
 }
 
 // Protocol and device with their versions, two informs of one name to a client.
@@ -86,11 +88,12 @@ pub fn put_arg_level(out: &mut [u8], at: usize, level: u8) -> usize
     message::put_arg(out, at, texts::word_of(&LEVELS, level as usize))
 }
 
-// The level of a word; 8 where no level has it.
-pub fn level_named(word: &[u8]) -> u8
-    ensures { result ≡ level_of word.now }
+// The level of a word, where a level has it.
+pub fn level_named(word: &[u8]) -> Option<u8>
+    ensures { result ≡ below 8 (level_of word.now) }
 {
-    texts::place_of(&LEVELS, word) as u8
+    let level = texts::place_of(&LEVELS, word)?;
+    Some(level as u8)
 }
 
 // The line of a log entry, from the start of out: its length.
@@ -99,7 +102,7 @@ fn entry_line(out: &mut [u8], level: u8, clock: u64, logger: &[u8], said: &[u8])
 {
     let p = output::put_bytes(out, 0, b"#log");
     let p = put_arg_level(out, p, level);
-    let p = message::put_arg_time(out, p, clock);
+    let p = message::put_arg_number(out, p, Notation::Time, clock);
     let p = message::put_arg(out, p, logger);
     let p = message::put_arg(out, p, said);
     output::put_byte(out, p, b'\n')
@@ -157,7 +160,7 @@ pub fn inform_others(
     let mut p = at;
     for (c, client) in clients.iter().enumerate() {
         if client.connected & (c != but) {
-            p = message::deliver_one(out, p, c as u8, b'#', name, 0, a);
+            p = message::deliver(out, p, c as u8, b'#', name, 0, &[a]);
         }
     }
     p

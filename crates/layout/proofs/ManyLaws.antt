@@ -1,14 +1,15 @@
--- So many of a kind, read one after another into an array: the argument of the loops that read options and sensors.
+-- So many of a kind, read one after another into a slice: the argument of the loop that reads options and sensors.
 use Prim.Native.Nat.{ℕ, suc, ◌+◌, ◌-◌, ◌≤◌, ◌<◌}
 use native.Mathlib.Omega.{arith}
 use mathlib.Core.Path.{◌≡◌, refl, ap, sym, ◌∙◌}
 use mathlib.Core.List.{List, [], ◌∷◌, ◌++◌, append-nil}
-use lib.ListN.{length, set, replicate, length-append}
-use lib.Seq.{set_at, append_snoc}
+use lib.ListN.{length, set, take, drop, replicate, length-take, length-replicate}
+use lib.Seq.{append_snoc, take_all}
+use Rattle.std.proofs.lemmas.List.{take_more_set, drop-replicate}
 use Rattle.machine.specs.Opening.{Taken, broken, taken, and_then, many_at}
 
 module _ {A : Type 0} where
-  then_all : (y : Taken (List A)) → y ≡ and_then y (λ xs q. taken ([] ++ xs) q)
+  then_all : (y : Taken (List A)) → y ≡ and_then y (λ xs q. taken xs q)
   then_all broken = refl
   then_all (taken xs q) = refl
 
@@ -16,51 +17,40 @@ module _ {A : Type 0} where
   then_more p x broken = refl
   then_more p x (taken xs q) = ap (λ (l : List A). taken l q) (sym (append_snoc p x xs))
 
--- k of `count` are read from s on, and `rest` is behind them; they stand at the start of the array, and blank ones behind them
-pub record Progress {A : Type 0} (one : List ℕ → Taken A) (blank : A) (size count : ℕ) (s : List ℕ) (array : List A) (rest : List ℕ) (k : ℕ) : Type 0 where
-  pub passed : List A
-  pub so_many : length passed ≡ k
-  pub within : k ≤ count
-  pub stored : array ≡ passed ++ replicate (size - k) blank
-  pub goes_on_lem : many_at one count s ≡ and_then (many_at one (count - k) rest) (λ xs q. taken (passed ++ xs) q)
+-- k of n are read from s on, and `rest` is behind them; they stand at the start of the array
+pub record Progress {A : Type 0} (one : List ℕ → Taken A) (n : ℕ) (s : List ℕ) (array : List A) (rest : List ℕ) (k : ℕ) : Type 0 where
+  pub goes_on_lem : many_at one n s ≡ and_then (many_at one (n - k) rest) (λ xs q. taken (take k array ++ xs) q)
 
-module _ {A : Type 0} {one : List ℕ → Taken A} {blank : A} {size count : ℕ} {s : List ℕ} where
-  pub begun : {array : List A} → array ≡ replicate size blank → Progress one blank size count s array s 0
-  begun {array} e =
-      let n : count - 0 ≡ count = omega arith in
-      let m : size - 0 ≡ size = omega arith in
-      record { passed = []; so_many = refl; within = omega arith; stored = rw m e; goes_on_lem = rw n (then_all (many_at one count s)) }
+module _ {A : Type 0} {one : List ℕ → Taken A} {n : ℕ} {s : List ℕ} {array : List A} where
+  pub begun : Progress one n s array s 0
+  begun = let e : n - 0 ≡ n = omega arith in record { goes_on_lem = rw e (then_all (many_at one n s)) }
 
-  module _ {array : List A} {rest : List ℕ} {k : ℕ} (f : Progress one blank size count s array rest k) where
-    module _ (h : k < count) where
-      left : count - k ≡ suc (count - (k + 1))
+  module _ {rest : List ℕ} {k : ℕ} (f : Progress one n s array rest k) where
+    module _ (h : k < n) where
+      left : n - k ≡ suc (n - (k + 1))
       left = omega arith
 
-      pub fault : broken ≡ one rest → many_at one count s ≡ broken
+      pub fault : broken ≡ one rest → many_at one n s ≡ broken
       unfolding many_at
       fault e = f.goes_on_lem ∙ rw (left, sym e)
 
-      pub more : count ≤ size → {x : A} {behind : List ℕ} → taken x behind ≡ one rest → Progress one blank size count s (set array k x) behind (k + 1)
+      pub more : length array ≡ n → {x : A} {behind : List ℕ} → taken x behind ≡ one rest → Progress one n s (set array k x) behind (k + 1)
       unfolding many_at
       more u {x} {behind} e =
-          let n : size - k ≡ suc (size - (k + 1)) = omega arith in
-          record {
-            passed = f.passed ++ (x ∷ []);
-            so_many = rw (length-append, f.so_many);
-            within = omega arith;
-            stored = rw (f.stored, n, append_snoc) (set_at f.passed blank (replicate (size - (k + 1)) blank) x k f.so_many);
-            goes_on_lem = f.goes_on_lem ∙ rw (left, sym e, then_more f.passed x (many_at one (count - (k + 1)) behind));
+          let stored = take_more_set array k x (omega arith) in record {
+            goes_on_lem = f.goes_on_lem ∙ rw (stored, left, sym e, then_more (take k array) x (many_at one (n - (k + 1)) behind));
           }
 
-    module _ (h : count ≤ k) where
-      pub all_read : many_at one count s ≡ taken f.passed rest
-      unfolding many_at
-      all_read =
-          let n : count - k ≡ 0 = omega arith in
-          f.goes_on_lem ∙ rw (n, append-nil)
+    pub all_read : n ≤ k → length array ≡ n → many_at one n s ≡ taken array rest
+    unfolding many_at
+    all_read h u =
+        let e : n - k ≡ 0 = omega arith in
+        f.goes_on_lem ∙ rw (e, append-nil, take_all k array (omega arith))
 
-      pub all_counted : length f.passed ≡ count
-      all_counted = omega (arith, f.so_many, f.within)
+-- parts are read into the first places of an array of blank ones
+module _ {A : Type 0} {size count : ℕ} (le : count ≤ size) (blank : A) where
+  pub so_many : length (take count (replicate size blank)) ≡ count
+  so_many = rw (length-take, length-replicate) (omega arith)
 
-      pub all_stored : array ≡ f.passed ++ replicate (size - length f.passed) blank
-      all_stored = rw f.so_many f.stored
+  pub filled : (parts : List A) → length parts ≡ length (take count (replicate size blank)) → parts ++ drop count (replicate size blank) ≡ parts ++ replicate (size - length parts) blank
+  filled parts h = rw (h ∙ so_many, drop-replicate count size blank) refl

@@ -1,11 +1,9 @@
 -- What the answers of this crate's functions say, in the terms of machine's Opening: `broken`, or what is taken and the bytes behind it.
-use Rattle.std.specs.Prelude.{ℕ, ◌-◌, List, ◌++◌, length, replicate, Option, Some, None}
+use Rattle.std.specs.Prelude.{ℕ, List, Option, Some, None}
 use Rattle.std.specs.Borrow.{Bor}
 use Rattle.value.specs.declared.Limits.{Limits}
 use Rattle.machine.specs.declared.Choice.{Choice}
 use Rattle.machine.specs.declared.Sensor.{Sensor}
-use Rattle.machine.specs.declared.Sheet.{Sheet}
-use Rattle.machine.specs.State.{blank_sensor}
 use Rattle.machine.specs.Opening.{Taken, broken, taken, and_then, with_limits, with_options}
 
 module _ {A : Type 0} where
@@ -26,11 +24,3 @@ taken_options n r = and_then r (λ os rest. taken (with_options n os) rest)
 -- a sensor with the limits that were read
 abbrev pub taken_limits : Sensor → Taken Limits → Taken Sensor
 taken_limits n r = and_then r (λ l rest. taken (with_limits n l) rest)
-
--- the sheet with sensors
-abbrev pub with_sensors : Sheet → List Sensor → Sheet
-with_sensors sheet ns = record { api = sheet.api; api_len = sheet.api_len; build = sheet.build; build_len = sheet.build_len; count = length ns; profile = sheet.profile; sensors = ns ++ replicate (32 - length ns) blank_sensor }
-
--- a sheet with the sensors that were read
-abbrev pub taken_sensors : Sheet → Taken (List Sensor) → Taken Sheet
-taken_sensors sheet r = and_then r (λ ns rest. taken (with_sensors sheet ns) rest)

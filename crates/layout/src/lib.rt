@@ -2,10 +2,10 @@
 //! answered with the bytes that follow it. The rules that the parts keep are not asked here.
 #![tactic(auto)]
 
-ghost use Rattle.std.specs.Prelude.{◌≡◌, ◌≤◌, length, IfSome};
-ghost use Rattle.machine.specs.Sheet.{no_limits};
+ghost use Rattle.std.specs.Prelude.{◌≡◌, ◌≤◌, length, IfSome, List, ℕ, MatchOption};
 ghost use Rattle.machine.specs.State.{blank_choice, blank_sensor, blank_sheet};
 ghost use Rattle.machine.specs.Opening as opening;
+ghost use Rattle.machine.specs.Opening.{Taken, broken, taken};
 ghost use Rattle.layout.specs.Read as reads;
 
 use machine::{Choice, Sensor, Sheet};
@@ -20,18 +20,6 @@ fn blank_choice() -> Choice
     }
 }
 
-fn no_limits() -> Limits
-    ensures { result ≡ no_limits }
-{
-    Limits {
-        count: 0,
-        nominal_min: 0,
-        nominal_max: 0,
-        warn_min: 0,
-        warn_max: 0,
-    }
-}
-
 fn blank_sensor() -> Sensor
     ensures { result ≡ blank_sensor }
 {
@@ -43,7 +31,7 @@ fn blank_sensor() -> Sensor
         units: [0; machine::UNITS],
         units_len: 0,
         kind: 0,
-        limits: no_limits(),
+        limits: value::NO_LIMITS,
         option_count: 0,
         options: [blank_choice(); machine::OPTIONS],
     }
@@ -62,6 +50,43 @@ pub fn blank_sheet() -> Sheet
         profile: 0,
         sensors: [blank_sensor(); machine::SENSORS],
     }
+}
+
+// A part that a sheet has several of, one behind another.
+trait Part: Copy {
+    ghost part_at: { List ℕ → Taken Self };
+
+    fn at(s: &[u8]) -> Option<(Self, &[u8])>
+        ensures { reads.read result ≡ part_at s.now };
+}
+
+impl Part for Choice {
+    ghost part_at = { opening.choice_at };
+
+    fn at(s: &[u8]) -> Option<(Choice, &[u8])> {
+        choice_at(s)
+    }
+}
+
+impl Part for Sensor {
+    ghost part_at = { opening.sensor_at };
+
+    fn at(s: &[u8]) -> Option<(Sensor, &[u8])> {
+        sensor_at(s)
+    }
+}
+
+// As many parts as there is room for, and the bytes behind them.
+fn parts_at<'a, T: Part>(s: &'a [u8], parts: &mut [T]) -> Option<&'a [u8]>
+    ensures { MatchOption result (opening.many_at T.part_at (length parts.old) s.now ≡ broken) (λ rest. opening.many_at T.part_at (length parts.old) s.now ≡ taken parts.new rest.now) }
+{
+    let mut rest = s;
+    for k in 0..parts.len() {
+        let (part, behind) = T::at(rest)?;
+        parts[k] = part;
+        rest = behind;
+    }
+    Some(rest)
 }
 
 // A byte.
@@ -150,7 +175,7 @@ fn limits_at(s: &[u8], kind: u8) -> Option<(Limits, &[u8])>
 {
     let (n, rest) = byte_at(s)?;
     match n {
-        0 => Some((no_limits(), rest)),
+        0 => Some((value::NO_LIMITS, rest)),
         2 => two_at(rest, kind),
         4 => four_at(rest, kind),
         _ => None,
@@ -169,26 +194,6 @@ fn choice_at(s: &[u8]) -> Option<(Choice, &[u8])>
     Some((choice, rest))
 }
 
-// The sensor with `count` options.
-fn choices_at(s: &[u8], count: u8, sensor: Sensor) -> Option<(Sensor, &[u8])>
-    requires { count ≤ 8 }
-    ensures { reads.read result ≡ reads.taken_options sensor (opening.many_at opening.choice_at count s.now) }
-{
-    let mut options = [blank_choice(); machine::OPTIONS];
-    let mut rest = s;
-    for k in 0..count as usize {
-        let (choice, behind) = choice_at(rest)?;
-        options[k] = choice;
-        rest = behind;
-    }
-    let whole = Sensor {
-        option_count: count,
-        options: options,
-        ..sensor
-    };
-    Some((whole, rest))
-}
-
 // An option count, and the sensor with so many options.
 #[tactic(auto, unfolding(machine::specs::Opening::options_at))]
 fn options_at(s: &[u8], sensor: Sensor) -> Option<(Sensor, &[u8])>
@@ -198,7 +203,14 @@ fn options_at(s: &[u8], sensor: Sensor) -> Option<(Sensor, &[u8])>
     if machine::MOST_OPTIONS < count {
         return None;
     }
-    choices_at(rest, count, sensor)
+    let mut options = [blank_choice(); machine::OPTIONS];
+    let rest = parts_at(rest, &mut options[..count as usize])?;
+    let whole = Sensor {
+        option_count: count,
+        options: options,
+        ..sensor
+    };
+    Some((whole, rest))
 }
 
 // The texts and the type of a sensor.
@@ -218,7 +230,7 @@ fn head_at(s: &[u8]) -> Option<(Sensor, &[u8])>
         units: padded(units),
         units_len: units.len() as u8,
         kind: kind,
-        limits: no_limits(),
+        limits: value::NO_LIMITS,
         option_count: 0,
         options: [blank_choice(); machine::OPTIONS],
     };
@@ -258,26 +270,6 @@ fn sensor_at(s: &[u8]) -> Option<(Sensor, &[u8])>
     rest_at(rest, sensor)
 }
 
-// The sheet with `count` sensors.
-fn sensors_at(s: &[u8], count: u8, sheet: Sheet) -> Option<(Sheet, &[u8])>
-    requires { count ≤ 32 }
-    ensures { reads.read result ≡ reads.taken_sensors sheet (opening.many_at opening.sensor_at count s.now) }
-{
-    let mut sensors = [blank_sensor(); machine::SENSORS];
-    let mut rest = s;
-    for k in 0..count as usize {
-        let (sensor, behind) = sensor_at(rest)?;
-        sensors[k] = sensor;
-        rest = behind;
-    }
-    let whole = Sheet {
-        count: count,
-        sensors: sensors,
-        ..sheet
-    };
-    Some((whole, rest))
-}
-
 // The texts of the sheet, its sensor count and its sensors.
 #[tactic(auto, unfolding(machine::specs::Opening::body_at))]
 fn body_at(s: &[u8]) -> Option<(Sheet, &[u8])>
@@ -289,14 +281,18 @@ fn body_at(s: &[u8]) -> Option<(Sheet, &[u8])>
     if machine::MOST_SENSORS < count {
         return None;
     }
+    let mut sensors = [blank_sensor(); machine::SENSORS];
+    let rest = parts_at(rest, &mut sensors[..count as usize])?;
     let sheet = Sheet {
         api: padded(api),
         api_len: api.len() as u8,
         build: padded(build),
         build_len: build.len() as u8,
-        ..blank_sheet()
+        count: count,
+        profile: 0,
+        sensors: sensors,
     };
-    sensors_at(rest, count, sheet)
+    Some((sheet, rest))
 }
 
 // The sheet that bytes hold from their start on, and the bytes behind it.
@@ -304,9 +300,6 @@ fn body_at(s: &[u8]) -> Option<(Sheet, &[u8])>
 pub fn sheet_at(s: &[u8]) -> Option<(Sheet, &[u8])>
     ensures { reads.read result ≡ opening.sheet_at s.now }
 {
-    let (mark, rest) = s.split_at_checked(5)?;
-    if !texts::same(mark, b"LGU\0\x01") {
-        return None;
-    }
+    let rest = s.strip_prefix(b"LGU\0\x01")?;
     body_at(rest)
 }

@@ -9,11 +9,13 @@ use lib.ListN.{length, take, get_or}
 use lib.Seq.{take-suc, take_all}
 use borrow.Author.Tests.{eq-eqb, ne_eqb}
 use Rattle.output.specs.Text.{text}
-use Rattle.output.specs.Number.{digit, decimal, time, integer, float, difference, whole_difference}
+use Rattle.output.specs.declared.Notation.{Notation}
+use Rattle.output.specs.declared.Notation.TheVariants.{Decimal, Time, Integer, Float, Difference, WholeDifference}
+use Rattle.output.specs.Number.{digit, decimal, time, integer, float, difference, whole_difference, number_text}
 use Rattle.output.specs.Output.{Output, Wrote}
 use Rattle.output.proofs.OutputLaws.{then}
 use Rattle.output.proofs.TextLaws.{Every, every_decimal, every_time, every_integer, every_float, every_difference, every_whole_difference, some_decimal, some_time, some_integer, some_float, some_difference, some_whole_difference}
-use Rattle.message.specs.Message.{Message, escape_byte, escape_all, escape, arg, args_text, id_text, write_to, write, line}
+use Rattle.message.specs.Message.{Message, message, escape_byte, escape_all, escape, arg, args_text, id_text, write_to, write, line}
 
 -- a byte that is none of the seven
 pub raw : (b : ℕ) → (b ≡ 92 → ⊥) → (b ≡ 32 → ⊥) → (b ≡ 0 → ⊥) → (b ≡ 10 → ⊥) → (b ≡ 13 → ⊥) → (b ≡ 27 → ⊥) → (b ≡ 9 → ⊥) → b ∷ [] ≡ escape_byte b
@@ -59,6 +61,16 @@ pub args_end : (xs : List (List ℕ)) (end : List ℕ) → args_text xs end ≡ 
 args_end [] end = refl
 args_end (a ∷ xs) end = ap (λ (t : List ℕ). arg a ++ t) (args_end xs end) ∙ sym (append_assoc (arg a) (args_text xs []) end)
 
+-- one argument more
+pub arg_more : {p q r : Output} (xs : List (List ℕ)) (a : List ℕ) → Wrote p (args_text xs []) q → Wrote q (arg a) r → Wrote p (args_text (xs ++ a ∷ []) []) r
+arg_more {p} {q} {r} xs a e f = rw (← args-append xs (a ∷ []) [], args_end xs (args_text (a ∷ []) []), append-nil (arg a)) (then e f)
+
+-- a line: what ends it stands behind the arguments
+pub said_line : {p q : Output} (kind : ℕ) (name : List ℕ) (id : ℕ) (args : List (List ℕ))
+    → Wrote p ((kind ∷ name) ++ (id_text id ++ (args_text args [] ++ (10 ∷ [])))) q → Wrote p (line (message kind name id args)) q
+unfolding write_to
+said_line kind name id args e = rw (args_end args (10 ∷ [])) e
+
 -- a line is the written message and byte 10
 pub line_end : (m : Message) → line m ≡ write m ++ (10 ∷ [])
 unfolding write_to
@@ -86,20 +98,10 @@ unfolding arg escape
 arg_mild [] n h = absurd (omega arith)
 arg_mild (b ∷ s) n h = ap (λ (x : List ℕ). 32 ∷ x) (sym (escape_all_mild (b ∷ s) h))
 
-pub arg_decimal : (n : ℕ) → code " " ∷ decimal n ≡ arg (decimal n)
-arg_decimal n = arg_mild (decimal n) (some_decimal n) (every_decimal Mild mild_digit n)
-
-pub arg_time : (ms : ℕ) → code " " ∷ time ms ≡ arg (time ms)
-arg_time ms = arg_mild (time ms) (some_time ms) (every_time Mild mild_digit (omega arith, omega arith) ms)
-
-pub arg_integer : (v : ℕ) → code " " ∷ integer v ≡ arg (integer v)
-arg_integer v = arg_mild (integer v) (some_integer v) (every_integer Mild mild_digit (omega arith, omega arith) v)
-
-pub arg_float : (v : ℕ) → code " " ∷ float v ≡ arg (float v)
-arg_float v = arg_mild (float v) (some_float v) (every_float Mild mild_digit (omega arith, omega arith) (omega arith, omega arith) v)
-
-pub arg_difference : (d : ℕ) → code " " ∷ difference d ≡ arg (difference d)
-arg_difference d = arg_mild (difference d) (some_difference d) (every_difference Mild mild_digit (omega arith, omega arith) d)
-
-pub arg_whole_difference : (d : ℕ) → code " " ∷ whole_difference d ≡ arg (whole_difference d)
-arg_whole_difference d = arg_mild (whole_difference d) (some_whole_difference d) (every_whole_difference Mild mild_digit d)
+pub arg_number : (k : Notation) (n : ℕ) → code " " ∷ number_text k n ≡ arg (number_text k n)
+arg_number Decimal n = arg_mild (decimal n) (some_decimal n) (every_decimal Mild mild_digit n)
+arg_number Time n = arg_mild (time n) (some_time n) (every_time Mild mild_digit (omega arith, omega arith) n)
+arg_number Integer n = arg_mild (integer n) (some_integer n) (every_integer Mild mild_digit (omega arith, omega arith) n)
+arg_number Float n = arg_mild (float n) (some_float n) (every_float Mild mild_digit (omega arith, omega arith) (omega arith, omega arith) n)
+arg_number Difference n = arg_mild (difference n) (some_difference n) (every_difference Mild mild_digit (omega arith, omega arith) n)
+arg_number WholeDifference n = arg_mild (whole_difference n) (some_whole_difference n) (every_whole_difference Mild mild_digit n)

@@ -2,11 +2,13 @@
 //! Each writer has the contract of the writers of crate output.
 #![tactic(auto)]
 
-ghost use Rattle.std.specs.Prelude.{◌≡◌, [], ◌∷◌, ◌+◌, min, take};
+ghost use Rattle.std.specs.Prelude.{◌≡◌, [], ◌∷◌, ◌+◌, min, take, map};
 ghost use Rattle.output.specs.Output.{output, Wrote};
-ghost use Rattle.output.specs.Number.{decimal, time, integer, float, difference, whole_difference};
-ghost use Rattle.message.specs.Message.{escape_byte, escape, arg, id_text, message, line};
+ghost use Rattle.output.specs.Number.{number_text};
+ghost use Rattle.message.specs.Message.{escape_byte, escape, arg, args_text, id_text, message, line};
 ghost use Rattle.message.specs.Delivery.{header, to, Sent};
+
+use output::Notation;
 
 // A backslash and a letter.
 fn put_pair(out: &mut [u8], at: usize, letter: u8) -> usize
@@ -46,12 +48,23 @@ fn put_escaped(out: &mut [u8], at: usize, s: &[u8]) -> usize
     p
 }
 
-// Arguments, each with the space before it.
+// An argument with the space before it.
 pub fn put_arg(out: &mut [u8], at: usize, s: &[u8]) -> usize
     ensures { Wrote (output out.old at) (arg s.now) (output out.new result) }
 {
     let p = output::put_byte(out, at, b' ');
     put_escaped(out, p, s)
+}
+
+// Arguments, one after another.
+fn put_args(out: &mut [u8], at: usize, args: &[&[u8]]) -> usize
+    ensures { Wrote (output out.old at) (args_text (map (λ a. a.now) args.now) []) (output out.new result) }
+{
+    let mut p = at;
+    for a in args {
+        p = put_arg(out, p, a);
+    }
+    p
 }
 
 // The first n bytes of s, which may be an array of any size; all of s where it is shorter.
@@ -61,47 +74,12 @@ pub fn put_arg_prefix(out: &mut [u8], at: usize, s: &[u8], n: usize) -> usize
     put_arg(out, at, texts::prefix(s, n))
 }
 
-// The texts of numbers need no escapes.
-pub fn put_arg_decimal(out: &mut [u8], at: usize, n: u64) -> usize
-    ensures { Wrote (output out.old at) (arg (decimal n)) (output out.new result) }
+// A stored number in its notation: the texts of numbers need no escapes.
+pub fn put_arg_number(out: &mut [u8], at: usize, notation: Notation, n: u64) -> usize
+    ensures { Wrote (output out.old at) (arg (number_text notation n)) (output out.new result) }
 {
     let p = output::put_byte(out, at, b' ');
-    output::put_decimal(out, p, n)
-}
-
-pub fn put_arg_time(out: &mut [u8], at: usize, ms: u64) -> usize
-    ensures { Wrote (output out.old at) (arg (time ms)) (output out.new result) }
-{
-    let p = output::put_byte(out, at, b' ');
-    output::put_time(out, p, ms)
-}
-
-pub fn put_arg_integer(out: &mut [u8], at: usize, v: u64) -> usize
-    ensures { Wrote (output out.old at) (arg (integer v)) (output out.new result) }
-{
-    let p = output::put_byte(out, at, b' ');
-    output::put_integer(out, p, v)
-}
-
-pub fn put_arg_float(out: &mut [u8], at: usize, v: u64) -> usize
-    ensures { Wrote (output out.old at) (arg (float v)) (output out.new result) }
-{
-    let p = output::put_byte(out, at, b' ');
-    output::put_float(out, p, v)
-}
-
-pub fn put_arg_difference(out: &mut [u8], at: usize, d: u64) -> usize
-    ensures { Wrote (output out.old at) (arg (difference d)) (output out.new result) }
-{
-    let p = output::put_byte(out, at, b' ');
-    output::put_difference(out, p, d)
-}
-
-pub fn put_arg_whole_difference(out: &mut [u8], at: usize, d: u64) -> usize
-    ensures { Wrote (output out.old at) (arg (whole_difference d)) (output out.new result) }
-{
-    let p = output::put_byte(out, at, b' ');
-    output::put_whole_difference(out, p, d)
+    output::put_number(out, p, notation, n)
 }
 
 // `[id]`; nothing for 0.
@@ -120,79 +98,44 @@ pub fn put_id(out: &mut [u8], at: usize, id: u64) -> usize
 pub fn line_start(len: usize, at: usize) -> usize
     ensures { result ≡ min (at + 3) len }
 {
-    if at < len {
-        if 3 <= len - at {
-            return at + 3;
-        }
-    }
-    len
+    at.saturating_add(3).min(len)
 }
 
 // The client and the length, high byte first, that stand before a line of n bytes.
 pub fn put_header(out: &mut [u8], at: usize, client: u8, n: usize) -> usize
     ensures { Wrote (output out.old at) (header client n) (output out.new result) }
 {
+    let [.., high, low] = n.to_be_bytes();
     let p = output::put_byte(out, at, client);
-    let p = output::put_byte(out, p, (n / 256 % 256) as u8);
-    output::put_byte(out, p, (n % 256) as u8)
+    let p = output::put_byte(out, p, high);
+    output::put_byte(out, p, low)
 }
 
-// The line of a message with one argument, from the start of out: its length.
-fn line_of_one(out: &mut [u8], kind: u8, name: &[u8], id: u64, a: &[u8]) -> usize
-    ensures { Wrote (output out.old 0) (line (message kind name.now id (a.now ∷ []))) (output out.new result) }
+// The line of a message, from the start of out: its length.
+fn put_line(out: &mut [u8], kind: u8, name: &[u8], id: u64, args: &[&[u8]]) -> usize
+    ensures { Wrote (output out.old 0) (line (message kind name.now id (map (λ a. a.now) args.now))) (output out.new result) }
 {
     let p = output::put_byte(out, 0, kind);
     let p = output::put_bytes(out, p, name);
     let p = put_id(out, p, id);
-    let p = put_arg(out, p, a);
+    let p = put_args(out, p, args);
     output::put_byte(out, p, b'\n')
 }
 
-// A message with one argument to a client.
-pub fn deliver_one(
+// A message to a client.
+pub fn deliver(
     out: &mut [u8],
     at: usize,
     client: u8,
     kind: u8,
     name: &[u8],
     id: u64,
-    a: &[u8],
+    args: &[&[u8]],
 ) -> usize
-    ensures { Sent (output out.old at) (to client (message kind name.now id (a.now ∷ [])) ∷ []) (output out.new result) }
+    ensures { Sent (output out.old at) (to client (message kind name.now id (map (λ a. a.now) args.now)) ∷ []) (output out.new result) }
 {
     let start = line_start(out.len(), at);
-    let n = line_of_one(&mut out[start..], kind, name, id, a);
-    let p = put_header(out, at, client, n);
-    p + n
-}
-
-// The line of a message with two arguments, from the start of out: its length.
-fn line_of_two(out: &mut [u8], kind: u8, name: &[u8], id: u64, a: &[u8], b: &[u8]) -> usize
-    ensures { Wrote (output out.old 0) (line (message kind name.now id (a.now ∷ b.now ∷ []))) (output out.new result) }
-{
-    let p = output::put_byte(out, 0, kind);
-    let p = output::put_bytes(out, p, name);
-    let p = put_id(out, p, id);
-    let p = put_arg(out, p, a);
-    let p = put_arg(out, p, b);
-    output::put_byte(out, p, b'\n')
-}
-
-// A message with two arguments to a client.
-pub fn deliver_two(
-    out: &mut [u8],
-    at: usize,
-    client: u8,
-    kind: u8,
-    name: &[u8],
-    id: u64,
-    a: &[u8],
-    b: &[u8],
-) -> usize
-    ensures { Sent (output out.old at) (to client (message kind name.now id (a.now ∷ b.now ∷ [])) ∷ []) (output out.new result) }
-{
-    let start = line_start(out.len(), at);
-    let n = line_of_two(&mut out[start..], kind, name, id, a, b);
+    let n = put_line(&mut out[start..], kind, name, id, args);
     let p = put_header(out, at, client, n);
     p + n
 }

@@ -6,12 +6,17 @@ use mathlib.Core.Path.{◌≡◌, refl, sym, ap, ◌∙◌}
 use mathlib.Core.Bool.{Bool, true, false, cond, ◌&&◌, and-true, and-eq-true_iff}
 use mathlib.Core.List.{List, [], ◌∷◌, ◌++◌, append-nil}
 use Rattle.std.specs.Prelude.{Option, Some, None}
-use borrow.Author.Tests.{eq-eqb, ne_eqb, ltb-true, leb-true, eqb-true}
-use lib.Dec.{leb, eqb}
+use Rattle.std.specs.Bool.{then_some}
+use Rattle.std.proofs.lemmas.Option.{cond_some}
+use borrow.Author.Tests.{lt-ltb, eq-eqb, ne_eqb, ltb-true, leb-true, eqb-true}
+use lib.Dec.{leb, ltb, eqb}
 use lib.ListN.{length, take, drop, get_or}
+use lib.Pointwise.{pointwise, bytes_decides}
 use lib.Seq.{take-append_seam}
+use Rattle.output.specs.declared.Notation.{Notation}
+use Rattle.output.specs.declared.Notation.TheVariants.{Decimal, Time, Integer, Float, Difference, WholeDifference}
 use Rattle.output.specs.Text.{same}
-use Rattle.output.specs.Number.{decimal, time, fixed, integer, float, difference, whole_difference}
+use Rattle.output.specs.Number.{decimal, time, fixed, integer, float, difference, whole_difference, number_text}
 use Rattle.output.specs.Output.{output, Wrote}
 use Rattle.output.specs.Read as reads
 use Rattle.output.specs.Read.{value_from, other, up_to, past, parts, from_bias, Exactly}
@@ -20,10 +25,9 @@ use Rattle.output.proofs.RunLaws.{run-append, behind-append}
 use Rattle.output.proofs.LengthLaws as lengths
 use Rattle.output.proofs.ReadLaws.{value_decimal, past_at, no_point, parts_fixed, parts_time, from_bias_lem}
 use Rattle.output.proofs.ReadBack as back
-use Rattle.output.proofs.TextLaws.{same_true, same_refl}
 use Rattle.texts.proofs.At.{to_end}
 use Rattle.texts.proofs.BeforeLaws.{before_is}
-use Rattle.numbers.specs.Number.{held_parts, held_signed}
+use Rattle.numbers.specs.Number.{held_parts, held_signed, held_number}
 
 -- what was written at the start of a buffer with room for it
 pub written : {xs ys : List ℕ} {r : ℕ} {bs : List ℕ} → Wrote (output xs 0) bs (output ys r) → length bs ≤ length xs → take r ys ≡ bs
@@ -39,32 +43,31 @@ pub record Readable (read : List ℕ → Option ℕ) (write : ℕ → List ℕ) 
 
 -- t is read as the number m that it is tried as where s, the text of m, is t
 module _ {read : List ℕ → Option ℕ} {write : ℕ → List ℕ} {in_range : ℕ → Bool} {tried : List ℕ → ℕ} (l : Readable read write in_range tried) where
-  compared : (t s : List ℕ) (m : ℕ) → m ≡ tried t → (in_range m ≡ true → s ≡ write m) → cond (in_range m && same s t) (Some m) None ≡ read t
+  compared : (t s : List ℕ) (m : ℕ) → m ≡ tried t → (in_range m ≡ true → s ≡ write m) → then_some (in_range m && pointwise eqb s t) m ≡ read t
   compared t s m n w = go (read t) refl
     where
-      not_same : read t ≡ None → (b : Bool) → in_range m && same s t ≡ b → cond b (Some m) None ≡ None
+      not_same : read t ≡ None → (b : Bool) → in_range m && pointwise eqb s t ≡ b → then_some b m ≡ None
       not_same e true p =
-          let k = (and-eq-true_iff (in_range m) (same s t)).0 p in
-          let q : t ≡ write m = sym (same_true s t k.1) ∙ w k.0 in
+          let k = (and-eq-true_iff (in_range m) (pointwise eqb s t)).0 p in
+          let q : t ≡ write m = sym ((bytes_decides s t).0 k.1) ∙ w k.0 in
           let r : read t ≡ Some m = ap read q ∙ l.exact.back m k.0 in
           let z : ◌≡◌ {A = ℕ} 0 1 = cc in
           absurd (omega arith)
       not_same e false p = refl
 
-      go : (o : Option ℕ) → read t ≡ o → cond (in_range m && same s t) (Some m) None ≡ o
-      go None e = not_same e (in_range m && same s t) refl
+      go : (o : Option ℕ) → read t ≡ o → then_some (in_range m && pointwise eqb s t) m ≡ o
+      go None e = not_same e (in_range m && pointwise eqb s t) refl
       go (Some x) e =
           let k = l.exact.only t x e in
           let y : m ≡ x = n ∙ ap tried (sym k.1) ∙ l.again x k.0 in
           let r : in_range m ≡ true = ap in_range y ∙ k.0 in
           let q : s ≡ t = w r ∙ ap write y ∙ k.1 in
-          rw (r, q, same_refl t, y)
+          rw (r, q, (bytes_decides t t).1 refl, y)
 
-  pub read_again : {t xs ys s : List ℕ} {m p : ℕ} {b : Bool} {r : Option ℕ} → m ≡ tried t → Wrote (output xs 0) (write m) (output ys p) → 20 ≤ length xs → s ≡ take p ys
-      → b ≡ in_range m → r ≡ cond (b && same s t) (Some m) None → r ≡ read t
-  read_again {t} {xs} {ys} {s} {m} {p} {b} {r} n w room start e h =
-      h ∙ ap (λ (a : Bool). cond (a && same s t) (Some m) None) e
-      ∙ compared t s m n (λ k. let f = l.short m k in start ∙ written w (omega arith))
+  pub read_again : {t xs ys s : List ℕ} {m p : ℕ} → m ≡ tried t → Wrote (output xs 0) (write m) (output ys p) → 20 ≤ length xs → s ≡ take p ys
+      → then_some (in_range m && pointwise eqb s t) m ≡ read t
+  read_again {t} {xs} {ys} {s} {m} {p} n w room start =
+      compared t s m n (λ k. let f = l.short m k in start ∙ written w (omega arith))
 
 -- ---- digits alone
 
@@ -78,12 +81,27 @@ decimals = record {
   again = λ n r. decimal_again n (ltb-true n (2 ^ 64) r);
 }
 
-pub booleans : Readable reads.read_boolean decimal reads.in_boolean (λ t. min (value_from 0 t) (2 ^ 64 - 1))
-booleans = record {
-  exact = back.booleans;
-  short = λ n r. let h = leb-true n 1 r in lengths.length-decimal 19 n (omega arith) (omega arith);
-  again = λ n r. let h = leb-true n 1 r in decimal_again n (omega arith);
-}
+-- a boolean is a decimal
+decimal_too : (b w s : Bool) (x : ℕ) → (b ≡ true → w ≡ true) → cond (w && s) (Some x) None ≡ None → cond (b && s) (Some x) None ≡ None
+decimal_too false w s x i h = refl
+decimal_too true w s x i h = rw (i refl) at h
+
+pub no_boolean : (t : List ℕ) → reads.read_decimal t ≡ None → reads.read_boolean t ≡ None
+unfolding reads.read_decimal reads.read_boolean
+no_boolean t h =
+    let x = value_from 0 t in
+    decimal_too (leb x 1) (ltb x (2 ^ 64)) (same (decimal x) t) x (λ e. let l = leb-true x 1 e in lt-ltb x (2 ^ 64) (omega arith)) h
+
+tested : (b : Bool) (n : ℕ) → cond b (Some n) None ≡ then_some b n
+tested true n = refl
+tested false n = refl
+
+pub boolean : (t : List ℕ) (n : ℕ) → reads.read_decimal t ≡ Some n → reads.read_boolean t ≡ then_some (leb n 1) n
+unfolding reads.read_decimal reads.read_boolean
+boolean t n h =
+    let x = value_from 0 t in
+    let k = cond_some (ltb x (2 ^ 64) && same (decimal x) t) x n h in
+    rw ((and-eq-true_iff (ltb x (2 ^ 64)) (same (decimal x) t)).0 k.0).1 (rw (k.1, and-true) (tested (leb n 1) n))
 
 whole_in : (d : ℕ) → reads.in_whole_difference d ≡ true → (d ≤ 4294967295000000) × (d % 1000000 ≡ 0)
 whole_in d r =
@@ -99,9 +117,6 @@ whole_differences = record {
 }
 
 -- whole millions
-pub whole_range : (n : ℕ) → leb (n * 1000000) 4294967295000000 ≡ reads.in_whole_difference (n * 1000000)
-whole_range n = rw (eq-eqb (n * 1000000 % 1000000) 0 (omega arith), and-true)
-
 -- ---- digits with a point
 
 -- the digits on both sides of the point, capped so that their parts fit
@@ -204,3 +219,13 @@ module _ (bias base : ℕ) (t : List ℕ) where
       go : (s : List ℕ) → (length s ≡ 0 → ⊥) → (get_or s 0 0 ≡ 45 → ⊥) → bias + min (held_parts base s) bias ≡ from_bias bias (λ u. min (held_parts base u) bias) s
       go [] h m = absurd (h refl)
       go (b ∷ s) h m = rw (ne_eqb b 45 m)
+
+-- ---- each notation
+
+pub numbers : (k : Notation) → Readable (reads.read_number k) (number_text k) (reads.in_number k) (held_number k)
+numbers Decimal = decimals
+numbers Time = times
+numbers Integer = integers
+numbers Float = floats
+numbers Difference = differences
+numbers WholeDifference = whole_differences

@@ -2,10 +2,11 @@
 //! again, is the text.
 #![tactic(auto)]
 
-ghost use Rattle.std.specs.Prelude.{◌≡◌, cond, ◌&&◌, ◌++◌, ◌+◌, ◌-◌, ◌*◌, ◌/◌, ◌^◌, ◌<◌, ◌≤◌, min, Some, None};
-ghost use Rattle.output.specs.Text as text;
+ghost use Rattle.std.specs.Prelude.{◌≡◌, ◌++◌, ◌+◌, ◌-◌, ◌*◌, ◌/◌, ◌^◌, ◌<◌, ◌≤◌, min};
 ghost use Rattle.output.specs.Read as reads;
-ghost use Rattle.numbers.specs.Number.{held_parts, held_signed};
+ghost use Rattle.numbers.specs.Number.{held_parts, held_signed, held_number};
+
+use output::Notation;
 
 // The most bytes that a number's text has.
 const LONGEST: usize = 20;
@@ -119,82 +120,62 @@ fn signed_of(t: &[u8], bias: u64, base: u64) -> u64
     bias + parts_of(t, base).min(bias)
 }
 
-// The number n, where it is in range and `again`, its text, is t.
-fn taken(n: u64, in_range: bool, again: &[u8], t: &[u8]) -> Option<u64>
-    ensures { result ≡ cond (in_range && text.same again.now t.now) (Some n) None }
+// The number that a text is tried as in a notation.
+fn tried(notation: Notation, t: &[u8]) -> u64
+    ensures { result ≡ held_number notation t.now }
 {
-    if in_range & (again == t) {
-        return Some(n);
+    match notation {
+        Notation::Decimal => digits_value(t, u64::MAX),
+        Notation::Time => parts_of(t, THOUSAND),
+        Notation::Integer => signed_of(t, INTEGER_BIAS, 1),
+        Notation::Float => signed_of(t, FLOAT_BIAS, BINARY_THOUSAND),
+        Notation::Difference => parts_of(t, MILLION),
+        Notation::WholeDifference => digits_value(t, INTEGERS) * MILLION,
     }
-    None
+}
+
+// Whether a notation has the number n.
+fn in_range(notation: Notation, n: u64) -> bool
+    ensures { result ≡ reads.in_number notation n }
+{
+    match notation {
+        Notation::Decimal => true, // all that 64 bits hold
+        Notation::Time => n <= LAST_TIME,
+        Notation::Integer => n < INTEGERS,
+        Notation::Float => n <= LAST_FLOAT,
+        Notation::Difference => n <= LAST_DIFFERENCE,
+        Notation::WholeDifference => (n <= LAST_WHOLE_DIFFERENCE) & (n % MILLION == 0),
+    }
+}
+
+// A number in its notation, as it is stored.
+pub fn read(notation: Notation, t: &[u8]) -> Option<u64>
+    ensures { result ≡ reads.read_number notation t.now }
+{
+    let n = tried(notation, t);
+    let mut again = [0u8; LONGEST];
+    let p = output::put_number(&mut again, 0, notation, n);
+    (in_range(notation, n) & (texts::prefix(&again, p) == t)).then_some(n)
 }
 
 // A decimal that 64 bits hold.
 pub fn read_decimal(t: &[u8]) -> Option<u64>
     ensures { result ≡ reads.read_decimal t.now }
 {
-    let n = digits_value(t, u64::MAX);
-    let mut again = [0u8; LONGEST];
-    let p = output::put_decimal(&mut again, 0, n);
-    taken(n, true, texts::prefix(&again, p), t)
-}
-
-// A time, in milliseconds.
-pub fn read_time(t: &[u8]) -> Option<u64>
-    ensures { result ≡ reads.read_time t.now }
-{
-    let n = parts_of(t, THOUSAND);
-    let mut again = [0u8; LONGEST];
-    let p = output::put_time(&mut again, 0, n);
-    taken(n, n <= LAST_TIME, texts::prefix(&again, p), t)
+    read(Notation::Decimal, t)
 }
 
 // A signed 32-bit number, counted from -2^31.
 pub fn read_integer(t: &[u8]) -> Option<u64>
     ensures { result ≡ reads.read_integer t.now }
 {
-    let n = signed_of(t, INTEGER_BIAS, 1);
-    let mut again = [0u8; LONGEST];
-    let p = output::put_integer(&mut again, 0, n);
-    taken(n, n < INTEGERS, texts::prefix(&again, p), t)
-}
-
-// A float, in 1024ths from -2^30.
-pub fn read_float(t: &[u8]) -> Option<u64>
-    ensures { result ≡ reads.read_float t.now }
-{
-    let n = signed_of(t, FLOAT_BIAS, BINARY_THOUSAND);
-    let mut again = [0u8; LONGEST];
-    let p = output::put_float(&mut again, 0, n);
-    taken(n, n <= LAST_FLOAT, texts::prefix(&again, p), t)
-}
-
-// A difference written like a float, in millionths.
-pub fn read_difference(t: &[u8]) -> Option<u64>
-    ensures { result ≡ reads.read_difference t.now }
-{
-    let n = parts_of(t, MILLION);
-    let mut again = [0u8; LONGEST];
-    let p = output::put_difference(&mut again, 0, n);
-    taken(n, n <= LAST_DIFFERENCE, texts::prefix(&again, p), t)
-}
-
-// A difference of integers, in millionths.
-pub fn read_whole_difference(t: &[u8]) -> Option<u64>
-    ensures { result ≡ reads.read_whole_difference t.now }
-{
-    let n = digits_value(t, INTEGERS) * MILLION;
-    let mut again = [0u8; LONGEST];
-    let p = output::put_whole_difference(&mut again, 0, n);
-    taken(n, n <= LAST_WHOLE_DIFFERENCE, texts::prefix(&again, p), t)
+    read(Notation::Integer, t)
 }
 
 // A boolean: 0 or 1.
 pub fn read_boolean(t: &[u8]) -> Option<u64>
     ensures { result ≡ reads.read_boolean t.now }
 {
-    let n = digits_value(t, u64::MAX);
-    let mut again = [0u8; LONGEST];
-    let p = output::put_decimal(&mut again, 0, n);
-    taken(n, n <= LAST_BOOLEAN, texts::prefix(&again, p), t)
+    let n = read_decimal(t)?;
+    (n <= LAST_BOOLEAN).then_some(n)
 }

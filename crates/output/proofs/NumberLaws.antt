@@ -1,11 +1,15 @@
 -- How the text of a number is made of that of its tenth, of its remainder, and of its distance from the bias.
 use Prim.Native.Nat.{ℕ, zero, suc, ◌+◌, ◌-◌, ◌*◌, ◌/◌, ◌%◌, ◌^◌, ◌<◌, ◌≤◌}
 use Prim.Native.Char.{code}
-use native.Mathlib.Nat.{zero-add, suc-add, lt_of_lt_of_le, pow-le-pow_right}
+use native.Mathlib.Nat.{eq-zero-or-pos, zero-add, suc-add, lt_of_lt_of_le, pow-le-pow_right}
 use native.Mathlib.Omega.{arith}
+use mathlib.Core.Bool.{cond}
+use mathlib.Core.Logic.{⊎_elim}
 use mathlib.Core.Path.{◌≡◌, refl, ap, ◌∙◌}
 use mathlib.Core.List.{List, [], ◌∷◌, ◌++◌}
 use borrow.Author.Tests.{lt-ltb, le-ltb, eq-eqb, ne_eqb}
+use lib.Dec.{ltb}
+use Rattle.std.specs.Int.{abs_diff}
 use Rattle.output.specs.Number.{digit, digits_in, decimal, fraction_in, signed}
 
 -- a digit more is no digit more where the number is short
@@ -45,8 +49,9 @@ fraction_more base (suc k) f h e =
     let d : suc k - 1 ≡ k = omega arith in
     rw (ne_eqb (f * 10 % base) 0 e, d)
 
-pub signed_below : (bias : ℕ) (show : ℕ → List ℕ) (v : ℕ) → v < bias → code "-" ∷ show (bias - v) ≡ signed bias show v
-signed_below bias show v h = rw (lt-ltb v bias h)
-
-pub signed_above : (bias : ℕ) (show : ℕ → List ℕ) (v : ℕ) → bias ≤ v → show (v - bias) ≡ signed bias show v
-signed_above bias show v h = rw (le-ltb v bias h)
+pub signed_lem : (bias : ℕ) (show : ℕ → List ℕ) (v : ℕ) → cond (ltb v bias) (code "-" ∷ []) [] ++ show (abs_diff v bias) ≡ signed bias show v
+signed_lem bias show v =
+    ⊎_elim
+    (λ (z : bias - v ≡ 0). let e : abs_diff v bias ≡ v - bias = omega arith in rw (le-ltb v bias (omega arith), e))
+    (λ (z : 0 < bias - v). let e : abs_diff v bias ≡ bias - v = omega arith in rw (lt-ltb v bias (omega arith), e))
+    (eq-zero-or-pos (bias - v))

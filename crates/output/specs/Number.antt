@@ -1,6 +1,8 @@
 -- The texts of numbers (document 01, "Values" and "Requests": how values, times and parameters are written).
 use Rattle.std.specs.Prelude.{ℕ, zero, suc, ◌+◌, ◌-◌, ◌*◌, ◌/◌, ◌%◌, ◌^◌, cond, List, [], ◌∷◌, ◌++◌, ltb, eqb}
 use Prim.Native.Char.{code}
+use Rattle.output.specs.declared.Notation.{Notation}
+use Rattle.output.specs.declared.Notation.TheVariants.{Decimal, Time, Integer, Float, Difference, WholeDifference}
 
 -- the last decimal digit of n
 abbrev pub digit : ℕ → ℕ
@@ -47,3 +49,12 @@ difference d = fixed 1000000 6 d
 -- a difference of integers: d counts millionths, and its whole part is written
 unfoldable pub whole_difference : ℕ → List ℕ
 whole_difference d = decimal (d / 1000000)
+
+-- the text of a stored number in its notation
+abbrev pub number_text : Notation → ℕ → List ℕ
+number_text Decimal n = decimal n
+number_text Time n = time n
+number_text Integer n = integer n
+number_text Float n = float n
+number_text Difference n = difference n
+number_text WholeDifference n = whole_difference n

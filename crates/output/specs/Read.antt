@@ -2,6 +2,8 @@
 use Rattle.std.specs.Prelude.{ℕ, ◌+◌, ◌-◌, ◌*◌, ◌/◌, ◌%◌, ◌^◌, ◌≡◌, Bool, true, not, cond, ◌&&◌, List, [], ◌∷◌, ◌++◌, eqb, leb, ltb, length, drop, Option, None, Some}
 use Prim.Native.Char.{code}
 use Rattle.output.specs.Text.{same, run, behind_run}
+use Rattle.output.specs.declared.Notation.{Notation}
+use Rattle.output.specs.declared.Notation.TheVariants.{Decimal, Time, Integer, Float, Difference, WholeDifference}
 use Rattle.output.specs.Number.{decimal, time, integer, float, difference, whole_difference}
 
 -- the number that digits make after a
@@ -90,6 +92,24 @@ read_difference t = accepted difference in_difference t (parts 1000000 t)
 -- a difference of integers
 unfoldable pub read_whole_difference : List ℕ → Option ℕ
 read_whole_difference t = accepted whole_difference in_whole_difference t (value_from 0 t * 1000000)
+
+-- the numbers of a notation
+abbrev pub in_number : Notation → ℕ → Bool
+in_number Decimal n = in_decimal n
+in_number Time n = in_time n
+in_number Integer n = in_integer n
+in_number Float n = in_float n
+in_number Difference n = in_difference n
+in_number WholeDifference n = in_whole_difference n
+
+-- a number in its notation
+abbrev pub read_number : Notation → List ℕ → Option ℕ
+read_number Decimal t = read_decimal t
+read_number Time t = read_time t
+read_number Integer t = read_integer t
+read_number Float t = read_float t
+read_number Difference t = read_difference t
+read_number WholeDifference t = read_whole_difference t
 
 -- `read t` is x exactly where x is in range and t is the text of x
 pub record Exactly (read : List ℕ → Option ℕ) (write : ℕ → List ℕ) (in_range : ℕ → Bool) : Type 0 where

@@ -2,9 +2,9 @@
 //! place after what it wrote. Where the output ends, so does the text: nothing past the end is written.
 #![tactic(auto)]
 
-ghost use Rattle.std.specs.Prelude.{[], ◌∷◌, ◌+◌, ◌/◌, ◌%◌, ◌<◌, ◌≤◌};
+ghost use Rattle.std.specs.Prelude.{cond, [], ◌∷◌, ◌+◌, ◌/◌, ◌%◌, ◌<◌, ◌≤◌};
 ghost use Rattle.output.specs.Output.{output, Wrote};
-ghost use Rattle.output.specs.Number.{digit, decimal, time, fraction_in, fixed, integer, float, difference, whole_difference};
+ghost use Rattle.output.specs.Number.{digit, decimal, time, fraction_in, fixed, integer, float, difference, whole_difference, number_text};
 
 // The stored number of the integer 0, which counts from -2^31.
 pub const INTEGER_ZERO: u64 = 2147483648;
@@ -14,6 +14,17 @@ pub const FLOAT_ZERO: u64 = 1073741824;
 pub const GRID: u64 = 1024;
 // The parts of a difference's unit.
 pub const MILLIONTHS: u64 = 1000000;
+
+// How a stored number is written.
+#[derive(Clone, Copy, Debug, PartialEq, Eq)]
+pub enum Notation {
+    Decimal,
+    Time,
+    Integer,
+    Float,
+    Difference,
+    WholeDifference,
+}
 
 // One byte, where there is room.
 pub fn put_byte(out: &mut [u8], at: usize, b: u8) -> usize
@@ -58,7 +69,7 @@ pub fn put_decimal(out: &mut [u8], at: usize, n: u64) -> usize
 }
 
 // Whole milliseconds as seconds, point, three digits.
-pub fn put_time(out: &mut [u8], at: usize, ms: u64) -> usize
+fn put_time(out: &mut [u8], at: usize, ms: u64) -> usize
     ensures { Wrote (output out.old at) (time ms) (output out.new result) }
 {
     let p = put_decimal(out, at, ms / 1000);
@@ -94,38 +105,56 @@ fn put_fixed(out: &mut [u8], at: usize, m: u64, base: u64, places: u64) -> usize
     put_fraction(out, p, m % base, base, places)
 }
 
+// The minus of a number that is below 0.
+fn put_sign(out: &mut [u8], at: usize, is_negative: bool) -> usize
+    ensures { Wrote (output out.old at) (cond is_negative (45 ∷ []) []) (output out.new result) }
+{
+    if is_negative {
+        return put_byte(out, at, b'-');
+    }
+    at
+}
+
 // A signed number: v counts from -2^31.
-pub fn put_integer(out: &mut [u8], at: usize, v: u64) -> usize
+fn put_integer(out: &mut [u8], at: usize, v: u64) -> usize
     ensures { Wrote (output out.old at) (integer v) (output out.new result) }
 {
-    if v < INTEGER_ZERO {
-        let p = put_byte(out, at, b'-');
-        return put_decimal(out, p, INTEGER_ZERO - v);
-    }
-    put_decimal(out, at, v - INTEGER_ZERO)
+    let p = put_sign(out, at, v < INTEGER_ZERO);
+    put_decimal(out, p, v.abs_diff(INTEGER_ZERO))
 }
 
 // A float: v counts 1024ths from -2^30. Exact, without trailing zeros, one fraction digit at least.
-pub fn put_float(out: &mut [u8], at: usize, v: u64) -> usize
+fn put_float(out: &mut [u8], at: usize, v: u64) -> usize
     ensures { Wrote (output out.old at) (float v) (output out.new result) }
 {
-    if v < FLOAT_ZERO {
-        let p = put_byte(out, at, b'-');
-        return put_fixed(out, p, FLOAT_ZERO - v, GRID, 10);
-    }
-    put_fixed(out, at, v - FLOAT_ZERO, GRID, 10)
+    let p = put_sign(out, at, v < FLOAT_ZERO);
+    put_fixed(out, p, v.abs_diff(FLOAT_ZERO), GRID, 10)
 }
 
 // A difference of d millionths, written like a float.
-pub fn put_difference(out: &mut [u8], at: usize, d: u64) -> usize
+fn put_difference(out: &mut [u8], at: usize, d: u64) -> usize
     ensures { Wrote (output out.old at) (difference d) (output out.new result) }
 {
     put_fixed(out, at, d, MILLIONTHS, 6)
 }
 
 // A difference of d millionths, written as an integer: its whole part.
-pub fn put_whole_difference(out: &mut [u8], at: usize, d: u64) -> usize
+fn put_whole_difference(out: &mut [u8], at: usize, d: u64) -> usize
     ensures { Wrote (output out.old at) (whole_difference d) (output out.new result) }
 {
     put_decimal(out, at, d / MILLIONTHS)
+}
+
+// A stored number in its notation.
+pub fn put_number(out: &mut [u8], at: usize, notation: Notation, n: u64) -> usize
+    ensures { Wrote (output out.old at) (number_text notation n) (output out.new result) }
+{
+    match notation {
+        Notation::Decimal => put_decimal(out, at, n),
+        Notation::Time => put_time(out, at, n),
+        Notation::Integer => put_integer(out, at, n),
+        Notation::Float => put_float(out, at, n),
+        Notation::Difference => put_difference(out, at, n),
+        Notation::WholeDifference => put_whole_difference(out, at, n),
+    }
 }

@@ -3,7 +3,6 @@ use Rattle.std.specs.Prelude.{Option, None, Some, slice_get}
 use Rattle.std.specs.Option.{option_copied}
 use Rattle.std.specs.Slice.{IsItemAt}
 use Rattle.std.proofs.Common.{Bor}
-use Rattle.std.proofs.lemmas.Option.{slice_get_past, slice_get_read}
 use Rattle.machine.specs.declared.Request.{Request}
 use Prim.Native.Nat.{ℕ, zero, suc, ◌+◌, ◌-◌, ◌≤◌, ◌<◌}
 use native.Mathlib.Omega.{arith}
@@ -13,22 +12,18 @@ use mathlib.Core.List.{List, [], ◌∷◌, map}
 use lib.ListN.{length, drop}
 use Rattle.output.specs.Text.{text}
 use Rattle.output.specs.Output.{Output}
-use Rattle.texts.specs.Table.{word_count, word_of, place_of}
+use Rattle.texts.specs.Table.{word_count, word_of, place_of, below}
+use Rattle.texts.proofs.TableLaws.{below_some, below_none, copied_at}
 use Rattle.message.specs.Delivery.{Delivery, to, Sent}
 use Rattle.message.proofs.DeliveryLaws.{and, none_sent}
 use Rattle.machine.specs.Places.{gather, only}
 use Rattle.machine.specs.Sheet.{single}
 use Rattle.machine.specs.Messages.{all_to, help_inform}
 use Rattle.machine.specs.Requests.{Row, requests, request_named, hidden, found, shown_rows}
-use Rattle.machine.proofs.WordTables.{request_at, request_at_lem}
+use Rattle.machine.proofs.WordTables.{request_at, request_at_lem, request_past}
 
 abbrev pub table : List ℕ
 table = text "client-list|halt|help|log-level|restart|sensor-list|sensor-sampling|sensor-value|version-list|watchdog"
-
--- what is read at a place of a list
-copied_at : {A : Type 0} (xs : List A) (i : ℕ) (r : Option (Bor A)) → IsItemAt xs i r → option_copied r ≡ slice_get xs i
-copied_at xs i None h = sym (slice_get_past xs i h.3)
-copied_at xs i (Some x) h = sym (slice_get_read xs (length xs) i x.now refl h.3.0 h.1)
 
 -- the request at a place of the table
 at_place : (rows : List Row) (n : ℕ) → slice_get (map (λ (r : Row). r.request) rows) n ≡ request_at rows n
@@ -36,9 +31,18 @@ at_place [] n = refl
 at_place (r ∷ rows) zero = refl
 at_place (r ∷ rows) (suc n) = at_place rows n
 
-pub by_place : (name : List ℕ) {k : ℕ} (read : Option (Bor Request)) → k ≡ place_of table name → IsItemAt (map (λ (r : Row). r.request) requests) k read → option_copied read ≡ request_named name
+by_place : (name : List ℕ) {k : ℕ} (read : Option (Bor Request)) → k ≡ place_of table name → IsItemAt (map (λ (r : Row). r.request) requests) k read → option_copied read ≡ request_named name
 unfolding place_of
 by_place name {k} read e h = copied_at (map (λ (r : Row). r.request) requests) k read h ∙ (at_place requests k ∙ (ap (request_at requests) e ∙ sym (request_at_lem name)))
+
+-- place: where the name was found
+module _ (name : List ℕ) {place : Option ℕ} (e : place ≡ below 10 (place_of table name)) where
+  pub named_none : place ≡ None → request_named name ≡ None
+  unfolding place_of
+  named_none h = request_at_lem name ∙ request_past requests (place_of table name) (below_none 10 (place_of table name) e h)
+
+  pub named_some : {k : ℕ} → place ≡ Some k → {o : Option Request} (read : Option (Bor Request)) → o ≡ option_copied read → IsItemAt (map (λ (r : Row). r.request) requests) k read → o ≡ request_named name
+  named_some {k} h read f at = f ∙ by_place name read (below_some 10 (place_of table name) e k h).0 at
 
 -- under a profile
 module _ (profile : ℕ) {o found_at : Option Request} (e : found_at ≡ o) where

@@ -14,6 +14,7 @@ ghost use Rattle.machine.specs.Declined.{count_fits};
 ghost use Rattle.replies.specs.Asking.{asking, names_told};
 
 use machine::{Client, Request, Sensor, Sheet, Strategy};
+use output::Notation;
 
 // How far an output is written, and how many informs that were.
 #[derive(Clone, Copy)]
@@ -54,9 +55,8 @@ fn is_hidden(profile: u8, request: Request) -> bool
 pub fn request_named(profile: u8, name: &[u8]) -> Option<Request>
     ensures { result ≡ found profile (request_named name.now) }
 {
-    let Some(request) = BY_PLACE.get(texts::place_of(&REQUESTS, name)).copied() else {
-        return None;
-    };
+    let place = texts::place_of(&REQUESTS, name)?;
+    let request = BY_PLACE.get(place).copied()?;
     if is_hidden(profile, request) {
         return None;
     }
@@ -91,7 +91,7 @@ fn count_line(out: &mut [u8], name: &[u8], id: u64, count: usize) -> usize
     ensures { Wrote (output out.old 0) (line (messages.count_reply (asking name.now id) count)) (output out.new result) }
 {
     let p = put_ok(out, name, id);
-    let p = message::put_arg_decimal(out, p, count as u64);
+    let p = message::put_arg_number(out, p, Notation::Decimal, count as u64);
     output::put_byte(out, p, b'\n')
 }
 
@@ -184,7 +184,7 @@ fn tell_client(out: &mut [u8], told: Told, client: u8, id: u64, k: &Client) -> T
         return told;
     }
     let text = texts::prefix(&k.address, k.address_len as usize);
-    let p = message::deliver_one(out, told.at, client, b'#', b"client-list", id, text);
+    let p = message::deliver(out, told.at, client, b'#', b"client-list", id, &[text]);
     Told {
         at: p,
         count: told.count + 1,
@@ -221,7 +221,7 @@ pub fn client_list(
 fn tell_request(out: &mut [u8], at: usize, client: u8, id: u64, request: &[u8]) -> usize
     ensures { Sent (output out.old at) (to client (messages.help_inform id request.now) ∷ []) (output out.new result) }
 {
-    message::deliver_two(out, at, client, b'#', b"help", id, request, request)
+    message::deliver(out, at, client, b'#', b"help", id, &[request, request])
 }
 
 // The first place of the table that a profile has: `client-list` is at place 0.

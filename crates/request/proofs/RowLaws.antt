@@ -1,6 +1,7 @@
 -- The arguments of a line that was read, and the rows that decline them.
-use Rattle.std.specs.Prelude.{Some, None, Option, Result, Ok, Err, IsOk}
-use Prim.Native.Nat.{ℕ, zero, suc, ◌≤◌, ◌<◌}
+use Rattle.std.specs.Prelude.{Some, None, Option, Result, Ok, Err, IsOk, IfOk}
+use Rattle.std.specs.Option.{ok_or}
+use Prim.Native.Nat.{ℕ, zero, suc, ◌≤◌}
 use Prim.Native.Char.{code}
 use native.Mathlib.Omega.{arith}
 use mathlib.Core.Path.{◌≡◌, refl, ap, sym, ◌∙◌}
@@ -9,8 +10,9 @@ use mathlib.Core.List.{List, [], ◌∷◌, ◌++◌, map}
 use lib.Dec.{eqb, leb, ltb}
 use lib.ListN.{length, take, drop, get_or, length-append}
 use lib.Seq.{take-append_seam}
-use borrow.Author.Tests.{le-leb, lt-leb, eq-eqb, ne_eqb}
+use borrow.Author.Tests.{le-leb, lt-leb, ltb-true, ltb-false, eq-eqb, ne_eqb}
 use Rattle.output.proofs.RunLaws.{run_le}
+use Rattle.texts.specs.Table.{below}
 use Rattle.message.specs.Message.{Message}
 use Rattle.line.specs.declared.Header.{Header}
 use Rattle.line.specs.declared.Meaning.{Meaning}
@@ -25,12 +27,13 @@ use Rattle.machine.specs.Sheet.{place_of, not_on_sheet}
 use Rattle.machine.specs.State.{blank_sheet}
 use Rattle.machine.specs.Requests.{argument, all_places, asked_places, request_named, found, found_number, level_of, split, listed, strategy_named, kind_asked, parameters_of, strategy_made}
 use Rattle.machine.specs.Declined.{count_fits, places_declined, help_declined, setting_declined, sampling_declined, arguments_declined, request_declined}
-use Rattle.machine.proofs.TestLaws.{cond_either, cond_true, cond_false, cond_ap}
+use Rattle.machine.proofs.TestLaws.{cond_either, cond_true, cond_false}
 use Rattle.declining.proofs.RowsLaws.{Row, row, row_declines, rows_pass, rows_rest}
 use Rattle.names.specs.declared.Listed.{Listed}
 use Rattle.names.specs.Scan.{places_of, scanned, places_named}
 use Rattle.names.proofs.SheetPlaces.{named_are, scanned_number, scanned_places, scanned_count}
 use Rattle.machine.specs.declared.Refusal.{Refusal}
+use Rattle.machine.specs.declared.Refusal.TheVariants.{UnknownLevel}
 use Rattle.machine.specs.Refusals.{refusal_number, number_in}
 use Rattle.machine.proofs.RefusalLaws.{declines}
 use Rattle.request.specs.Reading.{message_of, IsRead}
@@ -126,17 +129,13 @@ strategy_three sheet js k [] = refl
 strategy_three sheet js k (t ∷ []) = refl
 strategy_three sheet js k (t ∷ u ∷ ts) = refl
 
--- r: the level that a line names, level 0 where it names none
-module _ (m : Message) {r : ℕ} (e : r ≡ cond (eqb (length m.args) 0) 0 (level_of (argument m 0))) where
-  level_declined : cond (leb 8 r) 22 0 ≡ arguments_declined blank_sheet LogLevel m
-  unfolding arguments_declined
-  level_declined = ap (λ n. cond (leb 8 n) 22 0) e ∙ cond_ap (λ n. cond (leb 8 n) 22 0) (eqb (length m.args) 0) 0 (level_of (argument m 0))
-
-  pub level_known : r < 8 → 0 ≡ arguments_declined blank_sheet LogLevel m
-  level_known l = sym (cond_false (leb 8 r) 22 0 (lt-leb 8 r l)) ∙ level_declined
-
-  pub level_unknown : 8 ≤ r → 22 ≡ arguments_declined blank_sheet LogLevel m
-  level_unknown l = sym (cond_true (leb 8 r) 22 0 (le-leb 8 r l)) ∙ level_declined
+-- the level n of a word, or row 22 where that is no level
+level_row : (n : ℕ) → (number_in (ok_or (below 8 n) UnknownLevel) ≡ cond (leb 8 n) 22 0) × IfOk (ok_or (below 8 n) UnknownLevel) (λ l. l ≡ n)
+level_row n = go (ltb n 8) refl
+  where
+    go : (b : Bool) → ltb n 8 ≡ b → (number_in (ok_or (cond b (Some n) None) UnknownLevel) ≡ cond (leb 8 n) 22 0) × IfOk (ok_or (cond b (Some n) None) UnknownLevel) (λ l. l ≡ n)
+    go true e = (rw (lt-leb 8 n (ltb-true n 8 e)), refl)
+    go false e = (rw (le-leb 8 n (ltb-false n 8 e)), tt)
 
 -- the first two rows of `sensor-sampling`, before the others
 abbrev list_rows : Sheet → List ℕ → List Row
@@ -154,6 +153,10 @@ module _ (line : List ℕ) (head : Header) (h : IsRead line head) where
 
   pub help_all : (profile : ℕ) → head.count ≡ 0 → 0 ≡ cond (eqb (length m.args) 0) 0 (help_declined profile (request_named (argument m 0)))
   help_all profile e = rw (none_given e)
+
+  pub level_fits : head.count ≡ 0 → 0 ≡ arguments_declined blank_sheet LogLevel m
+  unfolding arguments_declined
+  level_fits e = rw (none_given e)
 
   pub level_kept : (level : ℕ) → head.count ≡ 0 → level ≡ cond (eqb (length m.args) 0) level (level_of (argument m 0))
   level_kept level e = rw (none_given e)
@@ -178,8 +181,14 @@ module _ (line : List ℕ) (head : Header) (h : IsRead line head) where
           → found_number 23 g ≡ cond (eqb (length m.args) 0) 0 (help_declined profile (request_named (argument m 0)))
       help_named profile e u = rw (some_given ne, ← given) (ap (found_number 23) (sym u ∙ e))
 
-      pub level_named : (level : ℕ) {r : ℕ} → r ≡ level_of t → r ≡ cond (eqb (length m.args) 0) level (level_of (argument m 0))
-      level_named level e = rw (some_given ne, ← given) e
+      -- its level
+      module _ {o : Option ℕ} (e : o ≡ below 8 (level_of t)) {r : Result ℕ Refusal} (f : r ≡ ok_or o UnknownLevel) where
+        pub level_declined : number_in r ≡ arguments_declined blank_sheet LogLevel m
+        unfolding arguments_declined
+        level_declined = rw (some_given ne, ← given, f, e) (level_row (level_of t)).0
+
+        pub level_given : (level : ℕ) → IfOk r (λ l. l ≡ cond (eqb (length m.args) 0) level (level_of (argument m 0)))
+        level_given level = rw (some_given ne, ← given, f, e) (level_row (level_of t)).1
 
     module _ (sheet : Sheet) (few : sheet.count ≤ 32) where
       pub listed_asked : places_named sheet t ≡ listed sheet m

@@ -69,16 +69,17 @@ fn help_row(profile: u8, asked: Asked) -> Result<(), Refusal>
     Ok(())
 }
 
-// The log level that a line names; the present one where it names none.
-fn level_asked(asked: Asked, level: u8) -> u8
-    ensures { result ≡ cond (eqb (length (message_of asked.entry.line.now).args) 0) level (requests.level_of (requests.argument (message_of asked.entry.line.now) 0)) }
+// The log level that a line names; the present one where it names none. Row 22: a word that no log level has.
+fn level_asked(asked: Asked, level: u8) -> Result<u8, Refusal>
+    ensures number { number_in result ≡ calls.arguments_declined states.blank_sheet Request.LogLevel (message_of asked.entry.line.now) }
+    ensures level { IfOk result (λ l. l ≡ cond (eqb (length (message_of asked.entry.line.now).args) 0) level (requests.level_of (requests.argument (message_of asked.entry.line.now) 0))) }
 {
     if asked.head.count == 0 {
-        return level;
+        return Ok(level);
     }
     let mut text: [u8; line::LONGEST] = [0; line::LONGEST];
     let n = asked.argument(0, &mut text);
-    informs::level_named(&text[..n])
+    informs::level_named(&text[..n]).ok_or(Refusal::UnknownLevel)
 }
 
 // The sensors of the comma list that is a line's first argument.
@@ -126,15 +127,12 @@ fn setting_asked(sheet: Sheet, places: &[u8], asked: Asked) -> Result<Strategy, 
     )
 }
 
-// Row 22: a word that no log level has.
+// That row alone.
 fn level_row(asked: Asked) -> Result<(), Refusal>
     ensures { number_in result ≡ calls.arguments_declined states.blank_sheet Request.LogLevel (message_of asked.entry.line.now) }
 {
-    if level_asked(asked, 0) < 8 {
-        Ok(())
-    } else {
-        Err(Refusal::UnknownLevel)
-    }
+    let _ = level_asked(asked, 0)?;
+    Ok(())
 }
 
 // Rows 16 and 21: `sensor-list` and `sensor-value` of a name that no sensor has, or that stands twice.
@@ -229,7 +227,7 @@ fn end_all(
 {
     let clients = state.clients;
     let name = asked.name();
-    let p = message::deliver_one(out, 0, client, b'!', name, asked.head.id, b"ok");
+    let p = message::deliver(out, 0, client, b'!', name, asked.head.id, &[b"ok"]);
     let written = informs::inform_others(out, p, clients, machine::CLIENTS, b"disconnect", why);
     state.halted = halted;
     state.level = level;
@@ -270,9 +268,10 @@ fn help(state: State, client: u8, asked: Asked, out: &mut [u8]) -> Answer
 
 // `log-level`: the level is set where one is named, and answered.
 fn log_level(mut state: State, client: u8, asked: Asked, out: &mut [u8]) -> Answer
+    requires { Ready state client Request.LogLevel asked.line.now asked.head }
     ensures { effects.Gives (effects.request_effect state client Request.LogLevel asked.entry.line.now) out.old result out.new }
 {
-    let level = level_asked(asked, state.level);
+    let level = level_asked(asked, state.level).unwrap();
     let name = asked.name();
     let written = replies::deliver_level(out, 0, client, name, asked.head.id, level);
     state.level = level;
@@ -472,7 +471,7 @@ fn watchdog(state: State, client: u8, asked: Asked, out: &mut [u8]) -> Answer
     ensures { effects.Gives (effects.request_effect state client Request.Watchdog asked.entry.line.now) out.old result out.new }
 {
     let name = asked.name();
-    let written = message::deliver_one(out, 0, client, b'!', name, asked.head.id, b"ok");
+    let written = message::deliver(out, 0, client, b'!', name, asked.head.id, &[b"ok"]);
     answered(state, written)
 }
 
@@ -519,7 +518,7 @@ fn deliver_refusal(out: &mut [u8], client: u8, name: &[u8], id: u64, refusal: Re
 {
     let code = texts::word_of(&CODES, code_of(refusal));
     let why = texts::word_of(&REFUSALS, refusal.number() as usize - 12);
-    message::deliver_two(out, 0, client, b'!', name, id, code, why)
+    message::deliver(out, 0, client, b'!', name, id, &[code, why])
 }
 
 // A request that a row declines: its reply, and the state as it was.

@@ -93,13 +93,6 @@ fn limit_ok(kind: u8, n: u64) -> bool
     }
 }
 
-fn limits_none(l: Limits) -> bool
-    ensures { result ≡ sheets.limits_none l }
-{
-    (l.count == 0)
-        & ((l.nominal_min == 0) & ((l.nominal_max == 0) & ((l.warn_min == 0) & (l.warn_max == 0))))
-}
-
 // Two limits of a type, the lower one first.
 fn ordered(kind: u8, low: u64, high: u64) -> bool
     ensures { result ≡ (sheets.limit_ok kind low && (sheets.limit_ok kind high && leb low high)) }
@@ -126,7 +119,7 @@ fn limits_four(kind: u8, l: Limits) -> bool
 fn limits_ok(kind: u8, l: Limits) -> bool
     ensures { result ≡ sheets.limits_ok kind l }
 {
-    let none = limits_none(l);
+    let none = l == value::NO_LIMITS;
     let two = limits_two(kind, l);
     let four = limits_four(kind, l);
     none | (value::is_measured(kind) & (two | four))
@@ -245,8 +238,7 @@ fn choice_keys(options: &[Choice; machine::OPTIONS]) -> [u32; machine::SENSORS]
 fn alike_texts(a_len: u8, a: &[u8], b_len: u8, b: &[u8]) -> bool
     ensures { result ≡ alike a_len a.now b_len b.now }
 {
-    let same = texts::same(a, b);
-    (a_len == b_len) & same
+    (a_len == b_len) & (a == b)
 }
 
 // Every option beside every option.
@@ -306,7 +298,7 @@ fn limits_at(there: bool, kind: u8, l: Limits) -> bool
     if there {
         return limits_ok(kind, l);
     }
-    limits_none(l)
+    l == value::NO_LIMITS
 }
 
 // The place of a sensor that is on the sheet, or of none: the same passes with other bounds.

@@ -12,6 +12,7 @@ ghost use Rattle.machine.specs.Requests.{sampled};
 ghost use Rattle.sampling.specs.Visits as visits;
 
 use machine::{Answer, Cause, Choice, Sensor, State, Stored, Strategy, Subscription};
+use output::Notation;
 use value::Sample;
 
 // Whether two samples of a sensor have different statuses.
@@ -154,7 +155,7 @@ fn value_line(
     let p = output::put_byte(out, 0, b'#');
     let p = output::put_bytes(out, p, name);
     let p = message::put_id(out, p, id);
-    let p = message::put_arg_time(out, p, time);
+    let p = message::put_arg_number(out, p, Notation::Time, time);
     let p = message::put_arg(out, p, b"1");
     let p = put_arg_name(out, p, sensor);
     let p = value::put_arg_status(out, p, status);

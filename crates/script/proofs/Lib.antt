@@ -1,4 +1,3 @@
 pub mod BytesLaws
 pub mod ReadingLaws
-pub mod CommandLaws
 pub mod ReplayLaws

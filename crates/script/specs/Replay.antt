@@ -1,5 +1,5 @@
 -- What a line of a script comes to on a device, and the line that answers it.
-use Rattle.std.specs.Prelude.{ℕ, List, [], ◌∷◌, ◌++◌, take, drop}
+use Rattle.std.specs.Prelude.{ℕ, List, [], ◌∷◌, ◌++◌, take, drop, Some, None, Option}
 use Rattle.output.specs.Text.{text}
 use Rattle.output.specs.Number.{decimal}
 use Rattle.machine.specs.declared.State.{State}
@@ -25,17 +25,17 @@ pub data Asking : Type 0 where
 abbrev pub bytes_at : ℕ → List ℕ → List ℕ
 bytes_at k line = bytes_of (word_at k line)
 
--- a line's command, with the bytes that the line has for it
-unfoldable pub asking : List ℕ → Command → Asking
-asking line commands.Passed = Nothing
-asking line commands.Wrong = Nothing
-asking line (commands.Open profile) = Opening (start_of profile (bytes_at 1 line))
-asking line (commands.Connect c) = Calling (calls.Connect c (bytes_at 3 line))
-asking line (commands.Disconnect c) = Calling (calls.Disconnect c)
-asking line (commands.Tick t) = Calling (calls.Tick t)
-asking line (commands.Reading j r t) = Calling (calls.Reading j (calls.arrival r t))
-asking line (commands.Log level) = Calling (calls.Log level (bytes_at 3 line) (bytes_at 4 line))
-asking line (commands.Line c) = Calling (calls.Line c (bytes_at 3 line))
+-- a line's command, with the bytes that the line has for it; a line that is no call has none
+unfoldable pub asking : List ℕ → Option Command → Asking
+asking line None = Nothing
+asking line (Some commands.Passed) = Nothing
+asking line (Some (commands.Open profile)) = Opening (start_of profile (bytes_at 1 line))
+asking line (Some (commands.Connect c)) = Calling (calls.Connect c (bytes_at 3 line))
+asking line (Some (commands.Disconnect c)) = Calling (calls.Disconnect c)
+asking line (Some (commands.Tick t)) = Calling (calls.Tick t)
+asking line (Some (commands.Reading j r t)) = Calling (calls.Reading j (calls.arrival r t))
+asking line (Some (commands.Log level)) = Calling (calls.Log level (bytes_at 3 line) (bytes_at 4 line))
+asking line (Some (commands.Line c)) = Calling (calls.Line c (bytes_at 3 line))
 
 -- an answer without output
 abbrev pub quiet : ℕ → State → Answer
@@ -76,13 +76,13 @@ unfoldable pub answer_line : ℕ → List ℕ → List ℕ
 answer_line n bs = decimal n ++ (text " " ++ (hex_text bs ++ (10 ∷ [])))
 
 -- the line that answers a command: none for a line that is passed over, and `error` for one that is no call
-unfoldable pub reply : Command → ℕ → List ℕ → List ℕ
-reply commands.Passed n bs = []
-reply commands.Wrong n bs = text "error" ++ (10 ∷ [])
-reply (commands.Open profile) n bs = answer_line n bs
-reply (commands.Connect c) n bs = answer_line n bs
-reply (commands.Disconnect c) n bs = answer_line n bs
-reply (commands.Tick t) n bs = answer_line n bs
-reply (commands.Reading j r t) n bs = answer_line n bs
-reply (commands.Log level) n bs = answer_line n bs
-reply (commands.Line c) n bs = answer_line n bs
+unfoldable pub reply : Option Command → ℕ → List ℕ → List ℕ
+reply None n bs = text "error" ++ (10 ∷ [])
+reply (Some commands.Passed) n bs = []
+reply (Some (commands.Open profile)) n bs = answer_line n bs
+reply (Some (commands.Connect c)) n bs = answer_line n bs
+reply (Some (commands.Disconnect c)) n bs = answer_line n bs
+reply (Some (commands.Tick t)) n bs = answer_line n bs
+reply (Some (commands.Reading j r t)) n bs = answer_line n bs
+reply (Some (commands.Log level)) n bs = answer_line n bs
+reply (Some (commands.Line c)) n bs = answer_line n bs

@@ -84,9 +84,9 @@ unfoldable pub profile_at : List ℕ → Option ℕ
 profile_at line = cond (has_words (text "open") 1 line) (Some 0) (at_most 255 (number_at 2 line))
 
 -- an opening under a profile that was read, or none
-abbrev pub opening : Option ℕ → Command
-opening None = commands.Wrong
-opening (Some profile) = commands.Open profile
+abbrev pub opening : Option ℕ → Option Command
+opening None = None
+opening (Some profile) = Some (commands.Open profile)
 
 -- a reading with its value, and with its time or without
 unfoldable pub is_reading : List ℕ → Bool
@@ -97,26 +97,26 @@ unfoldable pub time_at : ℕ → List ℕ → Option ℕ
 time_at clock line = cond (has_words (text "reading") 4 line) (Some clock) (number_at 5 line)
 
 -- a reading that was given, with its time, or none
-abbrev pub reading : ℕ → Option Reading → Option ℕ → Command
-reading j None t = commands.Wrong
-reading j (Some r) None = commands.Wrong
-reading j (Some r) (Some t) = commands.Reading j r t
+abbrev pub reading : ℕ → Option Reading → Option ℕ → Option Command
+reading j None t = None
+reading j (Some r) None = None
+reading j (Some r) (Some t) = Some (commands.Reading j r t)
 
 -- a line whose number behind LENT is n, at the clock of the state at hand
-unfoldable pub called : ℕ → List ℕ → ℕ → Command
+unfoldable pub called : ℕ → List ℕ → ℕ → Option Command
 called clock line n =
-    cond (has_words (text "connect") 3 line && has_bytes 3 line) (commands.Connect n)
-    (cond (has_words (text "disconnect") 2 line) (commands.Disconnect n)
-    (cond (has_words (text "tick") 2 line) (commands.Tick n)
+    cond (has_words (text "connect") 3 line && has_bytes 3 line) (Some (commands.Connect n))
+    (cond (has_words (text "disconnect") 2 line) (Some (commands.Disconnect n))
+    (cond (has_words (text "tick") 2 line) (Some (commands.Tick n))
     (cond (is_reading line) (reading n (given (word_at 3 line) (word_at 4 line)) (time_at clock line))
-    (cond (has_words (text "log") 4 line && (leb n 255 && (has_bytes 3 line && has_bytes 4 line))) (commands.Log n)
-    (cond (has_words (text "line") 3 line && has_bytes 3 line) (commands.Line n)
-    commands.Wrong)))))
+    (cond (has_words (text "log") 4 line && (leb n 255 && (has_bytes 3 line && has_bytes 4 line))) (Some (commands.Log n))
+    (cond (has_words (text "line") 3 line && has_bytes 3 line) (Some (commands.Line n))
+    None)))))
 
 -- by LENT and the number behind it
-abbrev pub by_numbers : ℕ → List ℕ → Option ℕ → Option ℕ → Command
-by_numbers clock line None m = commands.Wrong
-by_numbers clock line (Some lent) None = commands.Wrong
+abbrev pub by_numbers : ℕ → List ℕ → Option ℕ → Option ℕ → Option Command
+by_numbers clock line None m = None
+by_numbers clock line (Some lent) None = None
 by_numbers clock line (Some lent) (Some n) = called clock line n
 
 -- "Empty lines and lines that begin with `;` are passed over"
@@ -125,10 +125,10 @@ passed [] = true
 passed (b ∷ s) = eqb b (code ";")
 
 -- a line's command, at the clock of the state at hand; "a line over 65,536 bytes" is no call
-unfoldable pub command_of : ℕ → List ℕ → Command
+unfoldable pub command_of : ℕ → List ℕ → Option Command
 command_of clock line =
-    cond (ltb 65536 (length line)) commands.Wrong
-    (cond (passed line) commands.Passed
+    cond (ltb 65536 (length line)) None
+    (cond (passed line) (Some commands.Passed)
     (cond (is_opening line && has_bytes 1 line) (opening (profile_at line))
     (by_numbers clock line (number_at 1 line) (number_at 2 line))))
 

@@ -2,8 +2,6 @@
 #![tactic(auto)]
 
 ghost use Rattle.std.specs.Prelude.{◌≡◌, ◌≤◌, min, length};
-ghost use Rattle.std.specs.Float.{binary64};
-ghost use Rattle.std.specs.Float.Ieee.{of_bits};
 ghost use Rattle.output.specs.Output.{output, Wrote};
 ghost use Rattle.output.specs.Read.{read_decimal, read_integer};
 ghost use Rattle.value.specs.declared.Reading.TheVariants as readings;
@@ -28,8 +26,6 @@ const MOST_BYTES: usize = LONGEST_LINE / 2;
 pub enum Command {
     // an empty line or a comment
     Passed,
-    // no call
-    Wrong,
     // profile
     Open(u8),
     Connect(usize),
@@ -41,10 +37,10 @@ pub enum Command {
     Line(usize),
 }
 
-// What a line asked, and what was answered.
+// What a line asked, where it is a call or passed over, and what was answered.
 #[derive(Clone, Copy)]
 pub struct Performed {
-    pub command: Command,
+    pub command: Option<Command>,
     pub answer: Answer,
 }
 
@@ -58,27 +54,18 @@ fn at_most(most: u64, n: Option<u64>) -> Option<u64>
 }
 
 // The number of word `k`.
+#[tactic(auto, unfolding(crate::specs::Script::number_at))]
 fn number_at(line: &[u8], k: usize) -> Option<u64>
     ensures { result ≡ scripts.number_at k line.now }
 {
     numbers::read_decimal(input::word(line, k))
 }
 
-// The double of this bit pattern, of a NaN's too.
-fn double_of(bits: u64) -> f64
-    ensures { result ≡ of_bits binary64 bits }
-{
-    if 0x7ff0_0000_0000_0000 < bits % 0x8000_0000_0000_0000 {
-        return 0.0 / 0.0;
-    }
-    f64::from_bits(bits)
-}
-
 fn float_of(t: &[u8]) -> Option<Reading>
     ensures { result ≡ scripts.float_of (bits_of t.now) }
 {
     let bits = in_hex::read_bits(t)?;
-    Some(Reading::Float(double_of(bits)))
+    Some(Reading::Float(in_hex::double_of(bits)))
 }
 
 fn integer_of(t: &[u8]) -> Option<Reading>
@@ -173,6 +160,7 @@ fn has_bytes(line: &[u8], k: usize) -> bool
 }
 
 // Whether a line opens a sheet, with a profile or without.
+#[tactic(auto, unfolding(crate::specs::Script::is_opening))]
 fn is_opening(line: &[u8]) -> bool
     ensures { result ≡ scripts.is_opening line.now }
 {
@@ -180,6 +168,7 @@ fn is_opening(line: &[u8]) -> bool
 }
 
 // The profile of an opening: 0 where the line has none.
+#[tactic(auto, unfolding(crate::specs::Script::profile_at))]
 fn profile_at(line: &[u8]) -> Option<u64>
     ensures { result ≡ scripts.profile_at line.now }
 {
@@ -190,16 +179,15 @@ fn profile_at(line: &[u8]) -> Option<u64>
 }
 
 // An opening that a line asks.
-fn open_command(line: &[u8]) -> Command
+fn open_command(line: &[u8]) -> Option<Command>
     ensures { result ≡ scripts.opening (scripts.profile_at line.now) }
 {
-    let Some(profile) = profile_at(line) else {
-        return Command::Wrong;
-    };
-    Command::Open(profile as u8)
+    let profile = profile_at(line)?;
+    Some(Command::Open(profile as u8))
 }
 
 // Whether a line gives a reading, with its time or without.
+#[tactic(auto, unfolding(crate::specs::Script::is_reading))]
 fn is_reading(line: &[u8]) -> bool
     ensures { result ≡ scripts.is_reading line.now }
 {
@@ -207,6 +195,7 @@ fn is_reading(line: &[u8]) -> bool
 }
 
 // The time of a reading: the clock where the line has none.
+#[tactic(auto, unfolding(crate::specs::Script::time_at))]
 fn time_at(clock: u64, line: &[u8]) -> Option<u64>
     ensures { result ≡ scripts.time_at clock line.now }
 {
@@ -217,30 +206,26 @@ fn time_at(clock: u64, line: &[u8]) -> Option<u64>
 }
 
 // A reading that a line gives.
-fn reading_command(clock: u64, line: &[u8], sensor: usize) -> Command
+fn reading_command(clock: u64, line: &[u8], sensor: usize) -> Option<Command>
     ensures { result ≡ scripts.reading sensor (scripts.given (word_at 3 line.now) (word_at 4 line.now)) (scripts.time_at clock line.now) }
 {
-    let Some(r) = reading_of(input::word(line, 3), input::word(line, 4)) else {
-        return Command::Wrong;
-    };
-    let Some(time) = time_at(clock, line) else {
-        return Command::Wrong;
-    };
-    Command::Reading(sensor, r, time)
+    let r = reading_of(input::word(line, 3), input::word(line, 4))?;
+    let time = time_at(clock, line)?;
+    Some(Command::Reading(sensor, r, time))
 }
 
 // A line whose number behind LENT is `n`.
-fn called(clock: u64, line: &[u8], n: u64) -> Command
+fn called(clock: u64, line: &[u8], n: u64) -> Option<Command>
     ensures { result ≡ scripts.called clock line.now n }
 {
     if input::has_words(line, b"connect", 3) & has_bytes(line, 3) {
-        return Command::Connect(n as usize);
+        return Some(Command::Connect(n as usize));
     }
     if input::has_words(line, b"disconnect", 2) {
-        return Command::Disconnect(n as usize);
+        return Some(Command::Disconnect(n as usize));
     }
     if input::has_words(line, b"tick", 2) {
-        return Command::Tick(n);
+        return Some(Command::Tick(n));
     }
     if is_reading(line) {
         return reading_command(clock, line, n as usize);
@@ -248,54 +233,48 @@ fn called(clock: u64, line: &[u8], n: u64) -> Command
     if input::has_words(line, b"log", 4)
         & ((n <= 255) & (has_bytes(line, 3) & has_bytes(line, 4)))
     {
-        return Command::Log(n as u8);
+        return Some(Command::Log(n as u8));
     }
     if input::has_words(line, b"line", 3) & has_bytes(line, 3) {
-        return Command::Line(n as usize);
+        return Some(Command::Line(n as usize));
     }
-    Command::Wrong
+    None
 }
 
 // Whether a line is empty or a comment.
 fn is_passed(line: &[u8]) -> bool
     ensures { result ≡ scripts.passed line.now }
 {
-    line.is_empty() || line[0] == b';'
+    matches!(line, [] | [b';', ..])
 }
 
 // What a line of at most 65,536 bytes asks of a device with that clock.
-fn command_of(clock: u64, line: &[u8]) -> Command
+#[tactic(auto, unfolding(crate::specs::Script::command_of))]
+fn command_of(clock: u64, line: &[u8]) -> Option<Command>
     requires { length line.now ≤ 65536 }
     ensures { result ≡ scripts.command_of clock line.now }
 {
     if is_passed(line) {
-        return Command::Passed;
+        return Some(Command::Passed);
     }
     if is_opening(line) & has_bytes(line, 1) {
         return open_command(line);
     }
-    let Some(_) = number_at(line, 1) else {
-        return Command::Wrong;
-    };
-    let Some(n) = number_at(line, 2) else {
-        return Command::Wrong;
-    };
+    number_at(line, 1)?;
+    let n = number_at(line, 2)?;
     called(clock, line, n)
 }
 
 // How much of an output of `len` bytes a line lends.
+#[tactic(auto, unfolding(crate::specs::Script::lent_by))]
 fn lent_len(line: &[u8], len: usize) -> usize
     ensures { result ≡ min (scripts.lent_by line.now) len }
 {
-    let Some(n) = number_at(line, 1) else {
-        return 0;
-    };
-    if n < len as u64 { n as usize } else { len }
+    let n = number_at(line, 1).unwrap_or(0);
+    n.min(len as u64) as usize
 }
 
-// The calls that take bytes of the line.
-
-// An answer that counts no byte.
+// An answer without output.
 fn quiet(number: u8, state: State) -> Answer
     ensures { result ≡ replays.quiet number state }
 {
@@ -305,6 +284,8 @@ fn quiet(number: u8, state: State) -> Answer
         state: state,
     }
 }
+
+// The calls that take bytes of the line.
 
 fn open_sheet(line: &[u8], profile: u8) -> Answer
     requires { length line.now ≤ 65536 }
@@ -349,14 +330,17 @@ fn client_line(state: State, line: &[u8], client: usize, out: &mut [u8]) -> Answ
 }
 
 // What a line's command asks, made on the device.
-fn carry_out(state: State, line: &[u8], command: Command, out: &mut [u8]) -> Answer
+#[tactic(auto, unfolding(crate::specs::Replay::asking, crate::specs::Replay::answered, crate::specs::Replay::left))]
+fn carry_out(state: State, line: &[u8], command: Option<Command>, out: &mut [u8]) -> Answer
     requires { length line.now ≤ 65536 }
     ensures value { result ≡ replays.answered state out.old (replays.asking line.now command) }
     ensures out_after { out.new ≡ replays.left state out.old (replays.asking line.now command) }
 {
-    match command {
+    let Some(call) = command else {
+        return quiet(0, state);
+    };
+    match call {
         Command::Passed => quiet(0, state),
-        Command::Wrong => quiet(0, state),
         Command::Open(profile) => open_sheet(line, profile),
         Command::Connect(client) => connect(state, line, client, out),
         Command::Disconnect(client) => device::disconnect(state, client, out),
@@ -376,7 +360,7 @@ pub fn perform(state: State, line: &[u8], out: &mut [u8]) -> Performed
 {
     if LONGEST_LINE < line.len() {
         return Performed {
-            command: Command::Wrong,
+            command: None,
             answer: quiet(0, state),
         };
     }
@@ -399,13 +383,21 @@ fn put_answer(into: &mut [u8], at: usize, number: u8, bytes: &[u8]) -> usize
     output::put_byte(into, p, 10)
 }
 
-// The line that answers a line of a script, whose call had that number and wrote these bytes.
-pub fn put_reply(into: &mut [u8], at: usize, command: Command, number: u8, bytes: &[u8]) -> usize
+// The line that answers a line of a script, an error where it is no call, whose call had that number and wrote these bytes.
+pub fn put_reply(
+    into: &mut [u8],
+    at: usize,
+    command: Option<Command>,
+    number: u8,
+    bytes: &[u8],
+) -> usize
     ensures { Wrote (output into.old at) (replays.reply command number bytes.now) (output into.new result) }
 {
-    match command {
+    let Some(call) = command else {
+        return output::put_bytes(into, at, b"error\n");
+    };
+    match call {
         Command::Passed => at,
-        Command::Wrong => output::put_bytes(into, at, b"error\n"),
         _ => put_answer(into, at, number, bytes),
     }
 }

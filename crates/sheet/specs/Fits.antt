@@ -1,5 +1,5 @@
 -- The tests of readings and subscriptions by the types of the sensors, as one pass over the sheet finds them.
-use Rattle.std.specs.Prelude.{ℕ, ◌/◌, ◌%◌, Bool, cond, ◌&&◌, ◌||◌, List, leb, ltb, get_or}
+use Rattle.std.specs.Prelude.{ℕ, ◌/◌, ◌%◌, Bool, cond, not, ◌&&◌, ◌||◌, List, leb, ltb, get_or}
 use Rattle.value.specs.Reading.{sample_fits}
 use Rattle.machine.specs.declared.Client.{Client}
 use Rattle.machine.specs.declared.Stored.{Stored}
@@ -25,3 +25,7 @@ pair_fits count clock sensors ks ps p =
     pair_none (get_or ps p no_subscription)
     || (((get_or ks (p / 32) no_client).connected && ltb (p % 32) count)
     && reported_fits clock (get_or sensors.kinds (p % 32) 0) (get_or sensors.options (p % 32) 0) (get_or ps p no_subscription))
+
+-- a client is below the first, or not connected
+abbrev pub absent_from : ℕ → List Client → ℕ → Bool
+absent_from first ks c = ltb c first || not (get_or ks c no_client).connected

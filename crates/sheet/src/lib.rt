@@ -5,11 +5,12 @@ ghost use Rattle.std.specs.Prelude.{◌≡◌, cond, ◌&&◌, ◌||◌, leb};
 ghost use Rattle.value.specs.Reading as readings;
 ghost use Rattle.machine.specs.Places.{all_below};
 ghost use Rattle.machine.specs.State as states;
+ghost use Rattle.machine.specs.Refusals.{refusal_number};
 ghost use Rattle.machine.specs.Opening as opening;
 ghost use Rattle.machine.specs.Range as ranges;
 ghost use Rattle.sheet.specs.Fits as checks;
 
-use machine::{Client, Opened, Sheet, State, Stored, Strategy, Subscription};
+use machine::{Client, Opened, Refusal, Sheet, State, Stored, Strategy, Subscription};
 use rules::Sensors;
 use value::Sample;
 
@@ -85,11 +86,11 @@ fn blank_state() -> State
     }
 }
 
-fn not_opened(number: u8) -> Opened
-    ensures { result ≡ opening.not_opened number }
+fn not_opened(refusal: Refusal) -> Opened
+    ensures { result ≡ opening.not_opened (refusal_number refusal) }
 {
     Opened {
-        number: number,
+        number: refusal.number(),
         state: blank_state(),
     }
 }
@@ -101,10 +102,10 @@ pub fn open(profile: u8, sheet: &[u8]) -> Opened
     ensures { result ≡ opening.opened (opening.start_of profile sheet.now) }
 {
     if 1 < profile {
-        return not_opened(31);
+        return not_opened(Refusal::NoSuchProfile);
     }
     let Some((read, rest)) = layout::sheet_at(sheet) else {
-        return not_opened(4);
+        return not_opened(Refusal::NotASheet);
     };
     let state = fresh_state(Sheet {
         profile: profile,
@@ -117,7 +118,7 @@ pub fn open(profile: u8, sheet: &[u8]) -> Opened
             state: state,
         };
     }
-    not_opened(4)
+    not_opened(Refusal::NotASheet)
 }
 
 // A stored number of a valid value of a type.
@@ -182,23 +183,13 @@ fn clients_ok(clients: [Client; machine::CLIENTS]) -> bool
     ok
 }
 
-fn no_clients(clients: [Client; machine::CLIENTS]) -> bool
-    ensures { result ≡ ranges.no_clients clients }
-{
-    let mut ok = true;
-    for client in &clients {
-        ok = ok & !client.connected;
-    }
-    ok
-}
-
-// No client above the highest of its profile is connected.
-fn clients_within(last: usize, clients: [Client; machine::CLIENTS]) -> bool
-    ensures { result ≡ ranges.clients_within last clients }
+// None of the clients from `first` on is connected.
+fn none_from(first: usize, clients: [Client; machine::CLIENTS]) -> bool
+    ensures { result ≡ all_below (checks.absent_from first clients) 8 }
 {
     let mut ok = true;
     for (c, client) in clients.iter().enumerate() {
-        ok = ok & ((c <= last) | !client.connected);
+        ok = ok & ((c < first) | !client.connected);
     }
     ok
 }
@@ -287,12 +278,12 @@ pub fn in_range(s: State) -> bool
     let titles = rules::titles_ok(sheet);
     let untitled = rules::titles_none(sheet);
     let sensors = rules::sensors_found(sheet);
-    let alone = no_clients(connections);
+    let alone = none_from(0, connections);
     // what, in range, only the blank state has
     let blank = untitled
         & ((sheet.count == 0)
             & ((sheet.profile == 0) & (alone & (s.halted & ((s.level == 0) & (s.clock == 0))))));
-    let within = clients_within(machine::last_client(sheet.profile), connections);
+    let within = none_from(machine::last_client(sheet.profile) + 1, connections);
     let profile = (sheet.profile <= 1) & within;
     let readings = readings_ok(sheet.count, s.clock, sensors, stored);
     let clients = clients_ok(connections);

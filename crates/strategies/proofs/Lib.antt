@@ -1,2 +1,3 @@
 pub mod SettingLaws
 pub mod TypeLaws
+pub mod KindLaws

@@ -5,22 +5,16 @@ use native.Mathlib.Omega.{arith}
 use mathlib.Core.Path.{◌≡◌, refl, ap, sym, ◌∙◌}
 use mathlib.Core.Bool.{Bool, true, false, cond, not, ◌&&◌}
 use mathlib.Core.List.{List, map}
-use lib.Dec.{leb}
-use borrow.Author.Tests.{leb-true, le-leb, lt-leb, eq-eqb, ne_eqb}
+use borrow.Author.Tests.{le-leb, lt-leb, eq-eqb, ne_eqb}
 use Rattle.value.specs.Reading.{is_measured}
 use Rattle.machine.specs.declared.Sheet.{Sheet}
 use Rattle.machine.specs.declared.Strategy.{Strategy}
 use Rattle.machine.specs.declared.Strategy.TheVariants.{None as NoStrategy}
-use Rattle.machine.specs.Places.{any, all_below}
+use Rattle.machine.specs.Places.{any}
 use Rattle.machine.specs.Sheet.{sensor_of}
 use Rattle.machine.specs.Requests.{parameter_count, by_difference, is_bad, number_of, parameters_of, strategy_by, strategy_made, shortest_over_longest}
 use Rattle.machine.specs.Declined.{setting_declined}
-use Rattle.machine.proofs.PlacesLaws.{below_at}
 use Rattle.strategies.specs.Settings.{made}
-
-pub parameters_most : (k : ℕ) → k < 7 → parameter_count k ≤ 3
-unfolding all_below
-parameters_most k h = leb-true (parameter_count k) 3 (below_at (λ j. leb (parameter_count j) 3) 7 k refl h)
 
 -- the strategy of one that could be made
 abbrev strategy_in : Option Strategy → Strategy
@@ -53,10 +47,10 @@ pub record Suits (sheet : Sheet) (js : List ℕ) (k n : ℕ) : Type 0 where
   pub counted : n ≡ 2 + parameter_count k
   pub measured : by_difference k && unmeasured sheet js ≡ false
 
--- p, u, m and r: what the calls for the tests answered
+-- p, t, u, m and r: what the calls for the tests answered
 module _ (sheet : Sheet) (js : List ℕ) (k n : ℕ) where
-  pub suited : {p : ℕ} {u : Bool} → k < 7 → p ≡ parameter_count k → n ≡ 2 + p → u ≡ unmeasured sheet js → by_difference k && u ≡ false → Suits sheet js k n
-  suited a e b f d = record { known = a; counted = rw e at b; measured = rw f at d }
+  pub suited : {p : ℕ} {t u : Bool} → k < 7 → p ≡ parameter_count k → n ≡ 2 + p → t ≡ by_difference k → u ≡ unmeasured sheet js → t && u ≡ false → Suits sheet js k n
+  suited a e b g f d = record { known = a; counted = rw e at b; measured = rw (g, f) at d }
 
   module _ (ts : List (List ℕ)) where
     pub declined_17 : 7 ≤ k → 17 ≡ setting_declined sheet js k n ts
@@ -67,9 +61,9 @@ module _ (sheet : Sheet) (js : List ℕ) (k n : ℕ) where
     unfolding setting_declined
     declined_15 a e b = rw (lt-leb 7 k a, ne_eqb n (2 + parameter_count k) (rw e at b))
 
-    pub declined_18 : {p : ℕ} {u : Bool} → k < 7 → p ≡ parameter_count k → n ≡ 2 + p → u ≡ unmeasured sheet js → by_difference k && u ≡ true → 18 ≡ setting_declined sheet js k n ts
+    pub declined_18 : {p : ℕ} {t u : Bool} → k < 7 → p ≡ parameter_count k → n ≡ 2 + p → t ≡ by_difference k → u ≡ unmeasured sheet js → t && u ≡ true → 18 ≡ setting_declined sheet js k n ts
     unfolding setting_declined
-    declined_18 a e b f d = rw (lt-leb 7 k a, eq-eqb n (2 + parameter_count k) (rw e at b), rw f at d)
+    declined_18 a e b g f d = rw (lt-leb 7 k a, eq-eqb n (2 + parameter_count k) (rw e at b), rw (g, f) at d)
 
     module _ (s : Suits sheet js k n) {m : Option Strategy} (e : m ≡ made k (parameters_of sheet js k ts)) where
       by_parameters : setting_declined sheet js k n ts ≡ cond (any is_bad (parameters_of sheet js k ts)) 19 (cond (shortest_over_longest (strategy_made sheet js k ts)) 20 0)

@@ -16,38 +16,69 @@ ghost use Rattle.machine.specs.Refusals.{number_in};
 ghost use Rattle.strategies.specs.Settings as settings;
 
 use machine::{Refusal, Sensor, Sheet, Strategy};
+use output::Notation;
 
 // The words of the strategies, none first.
 const STRATEGIES: [u8; 64] = *b"none|auto|period|event|differential|event-rate|differential-rate";
 
-// The place of a word among those of the strategies, none first; 7 where no strategy has it.
-// kept: a number, since the clause is that of `strategy_named`, where 7 is no strategy.
-pub fn strategy_named(word: &[u8]) -> u8
-    ensures { result ≡ requests.strategy_named word.now }
-{
-    texts::place_of(&STRATEGIES, word) as u8
+// A strategy without its parameters, as its word names it.
+#[derive(Clone, Copy, Debug, PartialEq, Eq)]
+pub enum Kind {
+    None,
+    Auto,
+    Period,
+    Event,
+    Differential,
+    EventRate,
+    DifferentialRate,
 }
 
-// That place.
-fn kind_of(strategy: Strategy) -> u8
-    ensures { result ≡ messages.strategy_kind strategy }
+// The kinds in the order of their words.
+const KINDS: [Kind; 7] = [
+    Kind::None,
+    Kind::Auto,
+    Kind::Period,
+    Kind::Event,
+    Kind::Differential,
+    Kind::EventRate,
+    Kind::DifferentialRate,
+];
+
+// The strategy that a word names.
+pub fn strategy_named(word: &[u8]) -> Option<Kind>
+    ensures { settings.word_place result ≡ requests.strategy_named word.now }
+{
+    let place = texts::place_of(&STRATEGIES, word)?;
+    KINDS.get(place).copied()
+}
+
+// The kind of a strategy.
+fn kind_of(strategy: Strategy) -> Kind
+    ensures { settings.kind_number result ≡ messages.strategy_kind strategy }
 {
     match strategy {
-        Strategy::None => 0,
-        Strategy::Auto => 1,
-        Strategy::Period(_) => 2,
-        Strategy::Event => 3,
-        Strategy::Differential(_) => 4,
-        Strategy::EventRate(_, _) => 5,
-        Strategy::DifferentialRate(_, _, _) => 6,
+        Strategy::None => Kind::None,
+        Strategy::Auto => Kind::Auto,
+        Strategy::Period(_) => Kind::Period,
+        Strategy::Event => Kind::Event,
+        Strategy::Differential(_) => Kind::Differential,
+        Strategy::EventRate(_, _) => Kind::EventRate,
+        Strategy::DifferentialRate(_, _, _) => Kind::DifferentialRate,
     }
 }
 
-// The word at a place as an argument.
-fn put_arg_word(out: &mut [u8], at: usize, kind: u8) -> usize
-    ensures { Wrote (output out.old at) (arg (messages.strategy_text kind)) (output out.new result) }
+// The place of its word.
+fn place(kind: Kind) -> usize
+    ensures { result ≡ settings.kind_number kind }
 {
-    message::put_arg(out, at, texts::word_of(&STRATEGIES, kind as usize))
+    kind as usize
+}
+
+// The word of a kind as an argument.
+fn put_arg_word(out: &mut [u8], at: usize, kind: Kind) -> usize
+    ensures { Wrote (output out.old at) (arg (messages.strategy_text (settings.kind_number kind))) (output out.new result) }
+{
+    message::put_arg(out, at, texts::word_of(&STRATEGIES, place(kind)))
 }
 
 // A difference as it is written for a sensor.
@@ -55,8 +86,8 @@ fn put_arg_difference(out: &mut [u8], at: usize, sensor: Sensor, difference: u64
     ensures { Wrote (output out.old at) (arg (messages.difference_text sensor difference)) (output out.new result) }
 {
     match sensor.kind {
-        1 => message::put_arg_whole_difference(out, at, difference),
-        _ => message::put_arg_difference(out, at, difference),
+        1 => message::put_arg_number(out, at, Notation::WholeDifference, difference),
+        _ => message::put_arg_number(out, at, Notation::Difference, difference),
     }
 }
 
@@ -64,8 +95,8 @@ fn put_arg_difference(out: &mut [u8], at: usize, sensor: Sensor, difference: u64
 fn put_args_rate(out: &mut [u8], at: usize, shortest: u64, longest: u64) -> usize
     ensures { Wrote (output out.old at) (args_text (time shortest ∷ time longest ∷ []) []) (output out.new result) }
 {
-    let p = message::put_arg_time(out, at, shortest);
-    message::put_arg_time(out, p, longest)
+    let p = message::put_arg_number(out, at, Notation::Time, shortest);
+    message::put_arg_number(out, p, Notation::Time, longest)
 }
 
 // A difference and two periods.
@@ -90,7 +121,7 @@ fn put_args_parameters(out: &mut [u8], at: usize, sensor: Sensor, strategy: Stra
     match strategy {
         Strategy::None => at,
         Strategy::Auto => at,
-        Strategy::Period(period) => message::put_arg_time(out, at, period),
+        Strategy::Period(period) => message::put_arg_number(out, at, Notation::Time, period),
         Strategy::Event => at,
         Strategy::Differential(difference) => put_arg_difference(out, at, sensor, difference),
         Strategy::EventRate(shortest, longest) => put_args_rate(out, at, shortest, longest),
@@ -109,15 +140,22 @@ pub fn put_args_strategy(out: &mut [u8], at: usize, sensor: Sensor, strategy: St
 }
 
 // How many parameters a strategy has.
-fn parameter_count(kind: u8) -> usize
-    ensures { result ≡ requests.parameter_count kind }
+fn parameter_count(kind: Kind) -> usize
+    ensures { result ≡ requests.parameter_count (settings.kind_number kind) }
 {
     match kind {
-        0 | 1 | 3 => 0,
-        2 | 4 => 1,
-        5 => 2,
-        _ => 3,
+        Kind::None | Kind::Auto | Kind::Event => 0,
+        Kind::Period | Kind::Differential => 1,
+        Kind::EventRate => 2,
+        Kind::DifferentialRate => 3,
     }
+}
+
+// Whether a strategy reports by a difference.
+fn is_by_difference(kind: Kind) -> bool
+    ensures { result ≡ requests.by_difference (settings.kind_number kind) }
+{
+    matches!(kind, Kind::Differential | Kind::DifferentialRate)
 }
 
 // The type of the sensor at a place; 0 past the places of a State.
@@ -169,22 +207,22 @@ fn difference_of(sheet: &Sheet, places: &[u8], text: &[u8]) -> Option<u64>
     difference_for(type_at(sheet, first), text)
 }
 
-// The strategy of a place among the words, for the sensors at some places, from the texts of its parameters, where each can be read.
-fn make(sheet: &Sheet, places: &[u8], kind: u8, a: &[u8], b: &[u8], c: &[u8]) -> Option<Strategy>
-    ensures { result ≡ settings.made kind (requests.parameters_of sheet.now places.now kind (a.now ∷ b.now ∷ c.now ∷ [])) }
+// The strategy of a kind, for the sensors at some places, from the texts of its parameters, where each can be read.
+fn make(sheet: &Sheet, places: &[u8], kind: Kind, a: &[u8], b: &[u8], c: &[u8]) -> Option<Strategy>
+    ensures { result ≡ settings.made (settings.kind_number kind) (requests.parameters_of sheet.now places.now (settings.kind_number kind) (a.now ∷ b.now ∷ c.now ∷ [])) }
 {
     let strategy = match kind {
-        1 => Strategy::Auto,
-        2 => Strategy::Period(value::read_period(a)?),
-        3 => Strategy::Event,
-        4 => Strategy::Differential(difference_of(sheet, places, a)?),
-        5 => Strategy::EventRate(value::read_shortest(a)?, value::read_period(b)?),
-        6 => Strategy::DifferentialRate(
+        Kind::None => Strategy::None,
+        Kind::Auto => Strategy::Auto,
+        Kind::Period => Strategy::Period(value::read_period(a)?),
+        Kind::Event => Strategy::Event,
+        Kind::Differential => Strategy::Differential(difference_of(sheet, places, a)?),
+        Kind::EventRate => Strategy::EventRate(value::read_shortest(a)?, value::read_period(b)?),
+        Kind::DifferentialRate => Strategy::DifferentialRate(
             difference_of(sheet, places, a)?,
             value::read_shortest(b)?,
             value::read_period(c)?,
         ),
-        _ => Strategy::None,
     };
     Some(strategy)
 }
@@ -200,27 +238,27 @@ fn is_reversed(strategy: Strategy) -> bool
     }
 }
 
-// What a request of `count` arguments sets for the sensors at some places: a strategy by its place among the words, and the texts of its
-// parameters, empty where there are none.
+// What a request of `count` arguments sets for the sensors at some places: the strategy that its word names, if it names one, with the texts of
+// the parameters, empty where there are none.
 pub fn read_setting(
     sheet: Sheet,
     places: &[u8],
-    kind: u8,
+    named: Option<Kind>,
     count: usize,
     a: &[u8],
     b: &[u8],
     c: &[u8],
 ) -> Result<Strategy, Refusal>
-    ensures number { number_in result ≡ calls.setting_declined sheet places.now kind count (a.now ∷ b.now ∷ c.now ∷ []) }
-    ensures strategy { IfOk result (λ st. st ≡ requests.strategy_made sheet places.now kind (a.now ∷ b.now ∷ c.now ∷ [])) }
+    ensures number { number_in result ≡ calls.setting_declined sheet places.now (settings.word_place named) count (a.now ∷ b.now ∷ c.now ∷ []) }
+    ensures strategy { IfOk result (λ st. st ≡ requests.strategy_made sheet places.now (settings.word_place named) (a.now ∷ b.now ∷ c.now ∷ [])) }
 {
-    if 7 <= kind {
+    let Some(kind) = named else {
         return Err(Refusal::UnknownStrategy);
-    }
+    };
     if count != 2 + parameter_count(kind) {
         return Err(Refusal::ArgumentCount);
     }
-    if ((kind == 4) | (kind == 6)) & is_unmeasured(&sheet, places) {
+    if is_by_difference(kind) & is_unmeasured(&sheet, places) {
         return Err(Refusal::StrategyNotForType);
     }
     let Some(strategy) = make(&sheet, places, kind, a, b, c) else {

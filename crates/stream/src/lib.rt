@@ -2,13 +2,14 @@
 //! again; a call that fails is told from the end of the input, and ends the work.
 #![tactic(auto)]
 
-ghost use Rattle.std.specs.Prelude.{ℕ, ◌+◌, ◌<◌, ◌≤◌, ◌≡◌, false, [], length, take, drop, negsuc, IfSome, IfErr, IsOk, IfOk, OnOk, OnErr};
+ghost use Rattle.std.specs.Prelude.{ℕ, List, ◌+◌, ◌<◌, ◌≤◌, ◌≡◌, false, [], length, take, drop, negsuc, IfSome, IfErr, IsOk, IfOk, OnOk, OnErr};
 ghost use Rattle.std.specs.IoError.{raw_os_error};
 ghost use Rattle.std.specs.Io.KnownBytes.{Appends, Consumes, IsAtEnd};
 ghost use Rattle.stream.specs.Filled.{Behind, Filled, empty_at};
 ghost use Rattle.stream.specs.Content.{Within, AllOf};
 ghost use Rattle.stream.specs.Errors.{is_to_repeat};
 ghost use Rattle.stream.specs.declared.ReadFault.TheVariants as faults;
+ghost use Rattle.stream.specs.declared.InputFault.TheVariants as ends;
 ghost use Rattle.input.specs.Window.{kept};
 ghost use Rattle.io.specs.Counts.{IsPrefixLen};
 ghost use Rattle.io.specs.Digits.{IsDigitCount, last_digits};
@@ -44,6 +45,29 @@ impl From<Unread> for ReadFault {
 
     fn from(_failed: Unread) -> ReadFault {
         ReadFault::Unread
+    }
+}
+
+// Why an input was not worked through to its end: a read failed, or a write of what is answered to it.
+#[derive(Clone, Copy, Debug, PartialEq, Eq)]
+pub enum InputFault {
+    Unread,
+    Unwritten,
+}
+
+impl From<Unread> for InputFault {
+    ghost from_gives = { λ _ fault. fault ≡ ends.Unread };
+
+    fn from(_failed: Unread) -> InputFault {
+        InputFault::Unread
+    }
+}
+
+impl From<Unwritten> for InputFault {
+    ghost from_gives = { λ _ fault. fault ≡ ends.Unwritten };
+
+    fn from(_failed: Unwritten) -> InputFault {
+        InputFault::Unwritten
     }
 }
 
@@ -226,4 +250,81 @@ pub fn read_input<R: Read, W: Write>(input: &mut R, errors: &mut W, buf: &mut [u
         Err(ReadFault::Unread) => say_unread(errors),
     }
     0
+}
+
+// The bytes at hand go to `each` after every read that brought some: it answers how many of them it used, and those behind stay at hand. Where they
+// fill the buffer, the first `most` of them are kept. To the end of the input, in at most 2^64 reads: an input need not end, and this does. How many
+// bytes are left at hand, at the start of the buffer.
+fn for_each_read<R: Read, F: FnMut(&[u8]) -> Result<usize, Unwritten>>(
+    input: &mut R,
+    buf: &mut [u8],
+    most: usize,
+    mut each: F,
+) -> Result<usize, InputFault>
+    requires { F.IsAlwaysCallable each }
+    ensures size { length buf.new ≡ length buf.old }
+    ensures within { IfOk result (λ n. n ≤ length buf.new) }
+    ensures bytes { (came : List ℕ) × Consumes (R.remaining input.old) (R.remaining input.new) came }
+{
+    let mut came = refill(input, buf, Window { from: 0, to: 0 }, most)?;
+    for _ in 0..u64::MAX {
+        if came.to == came.from {
+            break;
+        }
+        let used = each(&buf[..came.to])?;
+        let pending = Window {
+            from: used,
+            to: came.to,
+        };
+        came = refill(input, buf, pending, most)?;
+    }
+    Ok(came.to)
+}
+
+// What a program does with the lines of its input.
+pub trait Lines {
+    // A line, without its end.
+    fn line(&mut self, line: &[u8]) -> Result<(), Unwritten>;
+
+    // No other line is at hand: what was held back is printed.
+    fn pause(&mut self) -> Result<(), Unwritten>;
+}
+
+// The lines that end in `s` are taken, up to one that fails: how many bytes they have.
+fn take_lines<L: Lines>(lines: &mut L, s: &[u8]) -> Result<usize, Unwritten>
+    ensures { IfOk result (λ used. used ≤ length s.now) }
+{
+    let mut rest = s;
+    while let Some(end) = rest.iter().position(|b| *b == b'\n') {
+        lines.line(&rest[..end])?;
+        rest = &rest[end + 1..];
+    }
+    lines.pause()?;
+    Ok(s.len() - rest.len())
+}
+
+// Each line of an input is taken, up to one that fails. Of a line that fills the buffer the first `longest` bytes are one. A last line need not have
+// an end. Where a read fails, a sentence says so, and what came of a line is not taken.
+pub fn for_each_line<R: Read, L: Lines, E: Write>(
+    input: &mut R,
+    buf: &mut [u8],
+    longest: usize,
+    lines: &mut L,
+    errors: &mut E,
+) -> Result<(), Unwritten>
+    ensures size { length buf.new ≡ length buf.old }
+    ensures bytes { (came : List ℕ) × Consumes (R.remaining input.old) (R.remaining input.new) came }
+{
+    match for_each_read(input, buf, longest, |s| take_lines(lines, s)) {
+        Ok(0) => Ok(()),
+        Ok(n) => {
+            lines.line(&buf[..n])?;
+            lines.pause()
+        }
+        Err(InputFault::Unread) => {
+            say_unread(errors);
+            Ok(())
+        }
+        Err(InputFault::Unwritten) => Err(Unwritten),
+    }
 }

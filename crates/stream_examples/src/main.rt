@@ -116,6 +116,7 @@ fn show_reads<R: Files, W: Write>(rt: &R, to: &mut W) -> Result<(), Unwritten> {
 }
 
 // Standard input to standard output, until it ends or one of the two fails.
+// kept: `stream::for_each_line` hands on lines, of which it cuts those that fill the buffer; this prints all that each read brings.
 fn copy_input<R: Read, W: Write, E: Write>(
     input: &mut R,
     to: &mut W,

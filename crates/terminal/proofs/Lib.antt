@@ -1,3 +1,3 @@
-pub mod EntryLaws
+pub mod PrintLaws
 pub mod ShownLaws
 pub mod Begins

@@ -1,14 +1,13 @@
 -- The lines of a client among deliveries, one delivery after another.
-use Prim.Native.Nat.{ℕ, zero, suc, ◌+◌, ◌-◌, ◌*◌, ◌≤◌, ◌<◌, min}
+use Prim.Native.Nat.{ℕ, zero, suc, ◌+◌, ◌*◌, ◌≤◌, ◌<◌, min}
 use native.Mathlib.Omega.{arith}
 use mathlib.Core.Path.{◌≡◌, refl}
 use mathlib.Core.Bool.{Bool, true, false, cond}
 use mathlib.Core.List.{List, [], ◌∷◌, ◌++◌}
 use lib.Dec.{eqb}
 use lib.ListN.{length, take, drop, get_or, length-drop}
-use lib.Seq.{drop-drop}
 use Rattle.message.specs.Delivery.{cut_in, cut}
-use Rattle.texts.proofs.At.{at, at2, up_to_end}
+use Rattle.texts.proofs.At.{up_to_end}
 use Rattle.machine.specs.Places.{joined}
 use Rattle.machine.specs.TwoDevices.{lines_to}
 use Rattle.terminal.specs.Shown.{shown_to}
@@ -48,17 +47,10 @@ shown_none c (b ∷ []) h = refl
 shown_none c (b ∷ d ∷ []) h = refl
 shown_none c (b ∷ d ∷ e ∷ s) h = absurd (omega arith)
 
--- from one delivery to the next, which starts at `to`
-pub shown_more : (c : ℕ) (s : List ℕ) (i to : ℕ) → i + 3 ≤ length s
-    → to ≡ min (i + 3 + (get_or s (i + 1) 0 * 256 + get_or s (i + 2) 0)) (length s)
-    → shown_to c (drop i s) ≡ cond (eqb (get_or s i 0) c) (take (to - (i + 3)) (drop (i + 3) s)) [] ++ shown_to c (drop to s)
-shown_more c s i to h e =
-    let n = get_or s (i + 1) 0 * 256 + get_or s (i + 2) 0 in
-    let w = drop (i + 3) s in
-    let l : length w ≡ length s - (i + 3) = length-drop (i + 3) s in
-    let m : to - (i + 3) ≡ min n (length w) = omega arith in
-    let parts = up_to_end n w in
-    let a : i + 3 ≡ i + 2 + 1 = omega arith in
-    let b : i + 3 + (to - (i + 3)) ≡ to = omega arith in
-    let rest : drop to s ≡ drop n w = rw (← b, ← drop-drop (to - (i + 3)) (i + 3) s, m) parts.1 in
-    rw (at2 s i (omega arith), at s (i + 2) (omega arith), ← a, shown-cons, m, parts.0, rest)
+-- from one delivery to what follows its line, of n bytes
+pub shown_more : (c : ℕ) (s : List ℕ) {n : ℕ} → 3 ≤ length s → n ≡ min (get_or s 1 0 * 256 + get_or s 2 0) (length (drop 3 s))
+    → shown_to c s ≡ cond (eqb (get_or s 0 0) c) (take n (drop 3 s)) [] ++ shown_to c (drop n (drop 3 s))
+shown_more c [] h e = absurd (omega arith)
+shown_more c (b ∷ []) h e = absurd (omega arith)
+shown_more c (b ∷ d ∷ []) h e = absurd (omega arith)
+shown_more c (b ∷ d ∷ l ∷ s) h e = let parts = up_to_end (d * 256 + l) s in rw (shown-cons, e, parts.0, parts.1)

@@ -2,7 +2,8 @@
 //! the lines that a client is shown of a call's output.
 #![tactic(auto)]
 
-ghost use Rattle.std.specs.Prelude.{◌≡◌, cond, [], ◌+◌, ◌*◌, ◌≤◌, min};
+ghost use Rattle.std.specs.Prelude.{◌≡◌, cond, [], ◌+◌, ◌*◌, ◌≤◌, min, take, OnOk};
+ghost use Rattle.std.specs.Io.KnownBytes.{Appends};
 ghost use Rattle.output.specs.Output.{output, Wrote};
 ghost use Rattle.output.specs.Read.{read_decimal, read_integer};
 ghost use Rattle.machine.specs.Declined as calls;
@@ -13,6 +14,8 @@ ghost use Rattle.terminal.specs.Shown as shown;
 ghost use Rattle.terminal.specs.Start as start;
 
 use machine::{Answer, State};
+use std::io::Write;
+use stream::Unwritten;
 use value::Reading;
 
 // What an input line is: a tick, a sensor's reading, or a line for the server.
@@ -28,48 +31,35 @@ pub enum Entry {
 fn natural(t: &[u8]) -> Option<u64>
     ensures { result ≡ entries.natural t.now (read_decimal t.now) }
 {
-    if let Some(n) = numbers::read_decimal(t) {
-        return Some(n);
-    }
-    if input::is_natural(t) {
-        Some(u64::MAX)
-    } else {
-        None
-    }
+    let larger = input::is_natural(t).then_some(u64::MAX);
+    numbers::read_decimal(t).or(larger)
 }
 
 // Whether a text is an integer, of any size.
+#[tactic(auto, unfolding(crate::specs::Entry::is_whole))]
 fn is_whole(t: &[u8]) -> bool
     ensures { result ≡ entries.is_whole t.now }
 {
-    if t.len() == 0 {
-        return false;
+    match t {
+        [] => false,
+        [b'-', size @ ..] => input::is_natural(size) & !texts::same(size, b"0"),
+        _ => input::is_natural(t),
     }
-    if t[0] == b'-' {
-        let size = &t[1..];
-        return input::is_natural(size) & !texts::same(size, b"0");
-    }
-    input::is_natural(t)
 }
 
 // The reading of an integer, unfit for every sensor where it is too large.
+#[tactic(auto, unfolding(crate::specs::Entry::fitting))]
 fn integer_reading(t: &[u8]) -> Reading
     ensures { result ≡ entries.fitting (integer_of (read_integer t.now)) }
 {
-    let Some(x) = input::read_integer(t) else {
-        return Reading::Boolean(255);
-    };
-    Reading::Integer(x)
+    input::read_integer(t).map_or(Reading::Boolean(255), Reading::Integer)
 }
 
 // `@ n`.
 fn tick_entry(line: &[u8]) -> Entry
     ensures { result ≡ entries.ticking (entries.natural (word_at 1 line.now) (read_decimal (word_at 1 line.now))) }
 {
-    let Some(ms) = natural(input::word(line, 1)) else {
-        return Entry::Line;
-    };
-    Entry::Tick(ms)
+    natural(input::word(line, 1)).map_or(Entry::Line, Entry::Tick)
 }
 
 // `= s v`.
@@ -137,15 +127,6 @@ pub fn ask_info(state: State, out: &mut [u8]) -> Answer
     device::line(state, 0, b"?log-level info", out)
 }
 
-// Where a line of a delivery ends that starts at `at`, with a length of two bytes, in an output of `len` bytes.
-fn line_end(at: usize, high: u8, low: u8, len: usize) -> usize
-    requires { at ≤ len }
-    ensures { result ≡ min (at + (high * 256 + low)) len }
-{
-    let n = high as usize * 256 + low as usize;
-    if n < len - at { at + n } else { len }
-}
-
 // A line, where it goes to the client.
 fn put_if(into: &mut [u8], at: usize, own: bool, line: &[u8]) -> usize
     ensures { Wrote (output into.old at) (cond own line.now []) (output into.new result) }
@@ -161,12 +142,21 @@ pub fn put_shown(into: &mut [u8], at: usize, client: u8, bytes: &[u8]) -> usize
     ensures { Wrote (output into.old at) (shown.shown_to client bytes.now) (output into.new result) }
 {
     let mut p = at;
-    let mut i: usize = 0;
-    while i + 3 <= bytes.len() {
-        let from = i + 3;
-        let to = line_end(from, bytes[i + 1], bytes[i + 2], bytes.len());
-        p = put_if(into, p, bytes[i] == client, &bytes[from..to]);
-        i = to;
+    let mut left = bytes;
+    while let [to, high, low, rest @ ..] = left {
+        let n = (usize::from(*high) * 256 + usize::from(*low)).min(rest.len());
+        let (line, behind) = rest.split_at(n);
+        p = put_if(into, p, *to == client, line);
+        left = behind;
     }
     p
+}
+
+// Client 0's lines among deliveries are printed: their first 65,536 bytes.
+pub fn print_lines<W: Write>(to: &mut W, bytes: &[u8]) -> Result<(), Unwritten>
+    ensures { OnOk result (Appends (W.contents to.old) (W.contents to.new) (take 65536 (shown.shown_to 0 bytes.now))) }
+{
+    let mut lines = io::large_buffer();
+    let n = put_shown(&mut lines, 0, 0, bytes);
+    stream::print(to, texts::prefix(&lines, n))
 }

@@ -1,13 +1,6 @@
 -- A pass over a list: what is found so far, and the test of the rest, is the test of the whole.
-use Prim.Native.Nat.{ℕ, ◌+◌, ◌<◌, ◌≤◌}
-use native.Mathlib.Omega.{arith}
 use mathlib.Core.Path.{◌≡◌, sym, ◌∙◌}
 use mathlib.Core.Bool.{Bool, true, false, ◌&&◌}
-use mathlib.Core.List.{List}
-use lib.Dec.{eqb}
-use lib.ListN.{length, drop, get_or, drop_of_length-le}
-use Rattle.output.specs.Text.{same}
-use Rattle.texts.proofs.At.{at}
 
 -- the rest begins with the test t
 pub found_on : (ok t rest rest₀ whole : Bool) → (ok && rest₀) ≡ whole → rest₀ ≡ (t && rest) → ((ok && t) && rest) ≡ whole

@@ -6,14 +6,18 @@ use mathlib.Core.Bool.{Bool, true, false, cond, not}
 use mathlib.Core.List.{List, [], ◌∷◌, map}
 use Rattle.std.specs.Prelude.{Option, Some, None}
 use Rattle.std.specs.List.{slice_split, onto_first, slice_get, last_or, prefix_len}
-use Rattle.std.specs.Option.{option_map, unwrap_or}
-use Rattle.std.proofs.lemmas.Option.{same_Some, none-some}
-use lib.Dec.{eqb}
+use Rattle.std.specs.Option.{unwrap_or}
+use Rattle.std.specs.Option.{option_copied}
+use Rattle.std.specs.Slice.{IsItemAt}
+use Rattle.std.proofs.Common.{Bor}
+use Rattle.std.proofs.lemmas.Option.{same_Some, none-some, slice_get_past, slice_get_read}
+use lib.Dec.{eqb, ltb}
+use borrow.Author.Tests.{ltb-true, ltb-false}
 use lib.ListN.{length, get_or}
 use Rattle.std.specs.Str.{bytes_eq}
 use Rattle.output.specs.Text.{same}
 use Rattle.texts.proofs.SameLaws.{same_bytes}
-use Rattle.texts.specs.Table.{start_with, words_of, word_count, front, final, word_of, place_in, place_of}
+use Rattle.texts.specs.Table.{start_with, words_of, word_count, front, final, place_in, place_of, below}
 
 -- a byte that parts words
 abbrev pub is_bar : ℕ → Bool
@@ -89,3 +93,20 @@ place_few (w ∷ ws) word = go (same w word) (place_few ws word)
 pub place_bound : (table word : List ℕ) {r : ℕ} → r ≡ place_of table word → r ≤ word_count table
 unfolding place_of
 place_bound table word e = rw e (place_few (words_of table) word)
+
+-- a place that was found is below the number of words, and one that was not found is not
+below_is : (n k : ℕ) (b : Bool) → ltb k n ≡ b → (o : Option ℕ) → o ≡ cond b (Some k) None → ((m : ℕ) → o ≡ Some m → (m ≡ k) × (k < n)) × (o ≡ None → n ≤ k)
+below_is n k true t o e = (λ m h. (same_Some m k (sym h ∙ e), ltb-true k n t), λ h. absurd (none-some k (sym h ∙ e)))
+below_is n k false t o e = (λ m h. absurd (none-some m (sym e ∙ h)), λ h. ltb-false k n t)
+
+module _ (n k : ℕ) {o : Option ℕ} (e : o ≡ below n k) where
+  pub below_some : (m : ℕ) → o ≡ Some m → (m ≡ k) × (k < n)
+  below_some = (below_is n k (ltb k n) refl o e).0
+
+  pub below_none : o ≡ None → n ≤ k
+  below_none = (below_is n k (ltb k n) refl o e).1
+
+-- what is read at a place of a list
+pub copied_at : {A : Type 0} (xs : List A) (i : ℕ) (r : Option (Bor A)) → IsItemAt xs i r → option_copied r ≡ slice_get xs i
+copied_at xs i None h = sym (slice_get_past xs i h.3)
+copied_at xs i (Some x) h = sym (slice_get_read xs (length xs) i x.now refl h.3.0 h.1)

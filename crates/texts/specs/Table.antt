@@ -1,5 +1,5 @@
 -- Tables of words: a table is one text, its words parted by bars. What the papers list stands so in the code.
-use Rattle.std.specs.Prelude.{ℕ, suc, cond, List, [], ◌∷◌, eqb, length, get_or}
+use Rattle.std.specs.Prelude.{ℕ, suc, cond, List, [], ◌∷◌, eqb, ltb, length, get_or, Option, Some, None}
 use Prim.Native.Char.{code}
 use Rattle.output.specs.Text.{same}
 
@@ -41,3 +41,7 @@ place_in (w ∷ ws) word = cond (same w word) 0 (suc (place_in ws word))
 -- the place of a word in a table
 unfoldable pub place_of : List ℕ → List ℕ → ℕ
 place_of table word = place_in (words_of table) word
+
+-- a place among so many, where it is below their number
+abbrev pub below : ℕ → ℕ → Option ℕ
+below n k = cond (ltb k n) (Some k) None

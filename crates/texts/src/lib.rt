@@ -138,12 +138,9 @@ pub fn word_of(table: &[u8], k: usize) -> &[u8]
     table.split(|b| *b == BAR).last().unwrap_or(&[])
 }
 
-// The place of a word in a table; the number of the table's words where it is none of them.
-pub fn place_of(table: &[u8], word: &[u8]) -> usize
-    ensures { result ≡ tables.place_of table.now word.now }
+// The place of a word in a table, where it is one of the table's words.
+pub fn place_of(table: &[u8], word: &[u8]) -> Option<usize>
+    ensures { result ≡ tables.below (tables.word_count table.now) (tables.place_of table.now word.now) }
 {
-    table
-        .split(|b| *b == BAR)
-        .take_while(|w| *w != word)
-        .count()
+    table.split(|b| *b == BAR).position(|w| w == word)
 }

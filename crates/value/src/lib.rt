@@ -14,6 +14,8 @@ ghost use Rattle.value.specs.Status.{range_status, status_of, status_text};
 ghost use Rattle.value.specs.Value.{value_text};
 ghost use Rattle.value.specs.Parameter.{whole_ok, fraction_ok, units, decimal_ok, integer_difference_of, float_difference_of, period_of, shortest_of};
 
+use output::Notation;
+
 // The stored number of the integer 0, as `output` has it, and signed.
 const INTEGER_ZERO: i64 = output::INTEGER_ZERO as i64;
 // The stored number of the float 0, in the width of a Fit.
@@ -229,7 +231,7 @@ pub fn sample_of(kind: u8, options: u8, reading: Reading) -> Option<Sample>
 }
 
 // How many limits a sensor has, 0, 2 or 4, and the stored numbers of the limits.
-#[derive(Clone, Copy)]
+#[derive(Clone, Copy, PartialEq, Eq)]
 pub struct Limits {
     pub count: u8,
     pub nominal_min: u64,
@@ -237,6 +239,14 @@ pub struct Limits {
     pub warn_min: u64,
     pub warn_max: u64,
 }
+
+pub const NO_LIMITS: Limits = Limits {
+    count: 0,
+    nominal_min: 0,
+    nominal_max: 0,
+    warn_min: 0,
+    warn_max: 0,
+};
 
 // The status of a valid number.
 fn range_status(l: Limits, n: u64) -> u8
@@ -294,11 +304,11 @@ pub fn put_arg_value(
     ensures { Wrote (output out.old at) (arg (value_text kind (take len option.now) n)) (output out.new result) }
 {
     match kind {
-        1 => message::put_arg_integer(out, at, n),
-        2 => message::put_arg_float(out, at, n),
-        3 => message::put_arg_decimal(out, at, n),
+        1 => message::put_arg_number(out, at, Notation::Integer, n),
+        2 => message::put_arg_number(out, at, Notation::Float, n),
+        3 => message::put_arg_number(out, at, Notation::Decimal, n),
         4 => message::put_arg_prefix(out, at, option, len),
-        _ => message::put_arg_time(out, at, n),
+        _ => message::put_arg_number(out, at, Notation::Time, n),
     }
 }
 

@@ -3,42 +3,33 @@
 //! a line of 16 hex digits, the text of the double with these bits as a reading of a float sensor (`10` where it is unfit).
 #![tactic(auto)]
 
+use output::Notation;
 use std::io::Write;
 use std::rt::HostRuntime;
 use stream::Unwritten;
 use value::Reading;
 
-// A parameter written again by `put`, `19` where it is none.
-fn print_parameter<W: Write, F: FnOnce(&mut [u8], usize, u64) -> usize>(
+// A parameter written again, `19` where it is none.
+fn print_parameter<W: Write>(
     to: &mut W,
     parameter: Option<u64>,
-    put: F,
-) -> Result<(), Unwritten>
-    requires { F.IsAlwaysCallable put }
-{
+    notation: Notation,
+) -> Result<(), Unwritten> {
     let Some(x) = parameter else {
         return stream::print(to, b"19");
     };
     let mut out = [0u8; 32];
-    let n = put(&mut out, 0, x);
+    let n = output::put_number(&mut out, 0, notation, x);
     stream::print(to, texts::prefix(&out, n))
 }
 
-// The double with these bits.
-fn double_of(bits: u64) -> f64 {
-    if 0x7ff0_0000_0000_0000 < bits % 0x8000_0000_0000_0000 {
-        return 0.0 / 0.0;
-    }
-    f64::from_bits(bits)
-}
-
 fn print_double<W: Write>(to: &mut W, bits: u64) -> Result<(), Unwritten> {
-    let reading = Reading::Float(double_of(bits));
+    let reading = Reading::Float(in_hex::double_of(bits));
     let Some(s) = value::sample_of(2, 0, reading) else {
         return stream::print(to, b"10");
     };
     let mut out = [0u8; 32];
-    let n = output::put_float(&mut out, 0, s.number);
+    let n = output::put_number(&mut out, 0, Notation::Float, s.number);
     stream::print(to, texts::prefix(&out, n))
 }
 
@@ -55,18 +46,14 @@ fn show<W: Write>(to: &mut W, text: &[u8]) -> Result<(), Unwritten> {
     print_parameter(
         to,
         value::read_integer_difference(text),
-        output::put_whole_difference,
+        Notation::WholeDifference,
     )?;
     stream::print(to, b" ")?;
-    print_parameter(
-        to,
-        value::read_float_difference(text),
-        output::put_difference,
-    )?;
+    print_parameter(to, value::read_float_difference(text), Notation::Difference)?;
     stream::print(to, b" ")?;
-    print_parameter(to, value::read_period(text), output::put_time)?;
+    print_parameter(to, value::read_period(text), Notation::Time)?;
     stream::print(to, b" ")?;
-    print_parameter(to, value::read_shortest(text), output::put_time)?;
+    print_parameter(to, value::read_shortest(text), Notation::Time)?;
     show_double(to, text)?;
     stream::print(to, b"\n")
 }

@@ -10,10 +10,10 @@ pub slice_bounds-why-end : goal.slice_bounds-why-end
 slice_bounds-why-end c = let told : Reason c.args.address.now c.put_bytes-n.new.out c.put_bytes-n.result = reason c.requires c.put_bytes-p.ensures c.put_bytes-n.ensures in
     told.inside
 
-pub slice_bounds-deliver_one-end-2 : goal.slice_bounds-deliver_one-end-2
-slice_bounds-deliver_one-end-2 c = let told : Reason c.args.address.now c.put_bytes-n.new.out c.put_bytes-n.result = reason c.requires c.put_bytes-p.ensures c.put_bytes-n.ensures in
+pub slice_bounds-deliver-end-2 : goal.slice_bounds-deliver-end-2
+slice_bounds-deliver-end-2 c = let told : Reason c.args.address.now c.put_bytes-n.new.out c.put_bytes-n.result = reason c.requires c.put_bytes-p.ensures c.put_bytes-n.ensures in
     sym (length-take-le _ _ told.inside)
 
 pub returns : goal.returns
 returns c = let told : Reason c.args.address.now c.put_bytes-n.new.out c.put_bytes-n.result = reason c.requires c.put_bytes-p.ensures c.put_bytes-n.ensures in
-    rw (not-false c.args.there (ap not c.if-not-there.false)) (rw told.is at c.deliver_one.ensures)
+    rw (not-false c.args.there (ap not c.if-not-there.false)) (rw told.is at c.deliver.ensures)

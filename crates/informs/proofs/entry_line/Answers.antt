@@ -5,4 +5,4 @@ use Rattle.informs.proofs.entry_line.Goals as goal
 
 pub returns : goal.returns
 unfolding write_to id_text
-returns c = then c.put_bytes-p.ensures (then c.put_arg_level-p.ensures (then c.put_arg_time-p.ensures (then c.put_arg-p.ensures (then c.put_arg-p-2.ensures c.put_byte.ensures))))
+returns c = then c.put_bytes-p.ensures (then c.put_arg_level-p.ensures (then c.put_arg_number-p.ensures (then c.put_arg-p.ensures (then c.put_arg-p-2.ensures c.put_byte.ensures))))

@@ -9,7 +9,7 @@ loop-c-init c = serving _ _ _
 
 pub loop-c-preserved : goal.loop-c-preserved
 loop-c-preserved c = elim c.if-client-c.branch [
-  | then-client-c w ↦ rw (w.out-is, w.p-is) (serving_told c.loop-c.invariant (omega arith) w.if-client-c.true w.deliver_one-p.ensures)
+  | then-client-c w ↦ rw (w.out-is, w.p-is) (serving_told c.loop-c.invariant (omega arith) w.if-client-c.true w.deliver-p.ensures)
   | else-client-c w ↦ rw (w.out-is, w.p-is) (serving_passed c.loop-c.invariant (omega arith) w.if-client-c.false)
 ]
 

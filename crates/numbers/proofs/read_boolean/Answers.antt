@@ -1,8 +1,10 @@
--- The number that the text is tried as, written again, is compared with the text.
-use native.Mathlib.Omega.{arith}
-use mathlib.Core.Path.{refl}
+-- A decimal that is 0 or 1.
+use mathlib.Core.Path.{sym, ◌∙◌}
 use Rattle.numbers.proofs.NumberLaws as number
 use Rattle.numbers.proofs.read_boolean.Goals as goal
 
+pub returns-in_err-n : goal.returns-in_err-n
+returns-in_err-n c = c.from_residual.ensures ∙ sym (number.no_boolean c.args.t.now (sym c.in_err-n.ensures))
+
 pub returns : goal.returns
-returns c = number.read_again number.booleans c.digits_value-n.ensures c.put_decimal-p.ensures (omega arith) c.prefix.ensures refl c.taken.ensures
+returns c = c.then_some.ensures ∙ sym (number.boolean c.args.t.now c.in_ok-n.n (sym c.in_ok-n.ensures))

@@ -1,14 +1,10 @@
--- The calls' facts in a chain, on each way.
+-- The minus, where there is one, and how far the number is from the bias.
 use Prim.Native.Nat.{◌^◌}
 use Rattle.output.specs.Number.{float, fixed}
-use Rattle.output.proofs.NumberLaws.{signed_below, signed_above}
+use Rattle.output.proofs.NumberLaws.{signed_lem}
 use Rattle.output.proofs.OutputLaws.{then, said}
 use Rattle.output.proofs.put_float.Goals as goal
 
-pub returns-then-v-lt-FLOAT_ZERO : goal.returns-then-v-lt-FLOAT_ZERO
-unfolding float
-returns-then-v-lt-FLOAT_ZERO c = said (then c.put_byte-p.ensures c.put_fixed.ensures) (signed_below (2 ^ 30) (fixed 1024 10) _ c.if-v-lt-FLOAT_ZERO.true)
-
 pub returns : goal.returns
 unfolding float
-returns c = said c.put_fixed-2.ensures (signed_above (2 ^ 30) (fixed 1024 10) _ c.if-v-lt-FLOAT_ZERO.false)
+returns c = said (then c.put_sign-p.ensures (rw c.abs_diff.ensures at c.put_fixed.ensures)) (signed_lem (2 ^ 30) (fixed 1024 10) c.args.v)

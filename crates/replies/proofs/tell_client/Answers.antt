@@ -9,4 +9,4 @@ pub returns-then-not-k : goal.returns-then-not-k
 returns-then-not-k c = rw c.if-not-k.true (record { sent = none_sent; count_value = omega arith })
 
 pub returns : goal.returns
-returns c = rw (not-false c.args.k.now.connected (cc)) (record { sent = rw c.prefix-text.ensures at c.deliver_one-p.ensures; count_value = refl })
+returns c = rw (not-false c.args.k.now.connected (cc)) (record { sent = rw c.prefix-text.ensures at c.deliver-p.ensures; count_value = refl })

@@ -1,6 +1,9 @@
 -- By the request.
 use Rattle.request.proofs.carry_out.Goals as goal
 
+pub log_level-requires : goal.log_level-requires
+log_level-requires c = rw c.in-LogLevel.is at c.requires
+
 pub sensor_list-requires : goal.sensor_list-requires
 sensor_list-requires c = rw c.in-SensorList.is at c.requires
 

@@ -3,4 +3,4 @@ use Rattle.request.proofs.TellLaws.{ends}
 use Rattle.request.proofs.end_all.Goals as goal
 
 pub returns : goal.returns
-returns c = ends c.args.asked.line.now c.args.asked.head c.args.asked.read c.name-name.ensures c.args.state c.args.client c.args.why.now c.deliver_one-p.ensures c.inform_others-written.ensures c.blank_client-state.ensures c.no_subscription-state.ensures c.answered.ensures
+returns c = ends c.args.asked.line.now c.args.asked.head c.args.asked.read c.name-name.ensures c.args.state c.args.client c.args.why.now c.deliver-p.ensures c.inform_others-written.ensures c.blank_client-state.ensures c.no_subscription-state.ensures c.answered.ensures

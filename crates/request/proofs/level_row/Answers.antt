@@ -1,10 +1,12 @@
--- A line without a level counts as one with level 0.
-use Rattle.request.specs.Reading.{message_of}
-use Rattle.request.proofs.RowLaws.{level_known, level_unknown}
+-- The number of the level is that of the row.
+use mathlib.Core.Path.{ap, sym, ◌∙◌}
+use Rattle.std.proofs.lemmas.Result.{err_from_is_err_and}
+use Rattle.machine.specs.Refusals.{number_in}
 use Rattle.request.proofs.level_row.Goals as goal
 
-pub returns-then-level_asked-lt8 : goal.returns-then-level_asked-lt8
-returns-then-level_asked-lt8 c = level_known (message_of c.args.asked.line.now) c.level_asked.ensures c.if-level_asked-lt8.true
+pub returns-in_err-level_asked : goal.returns-in_err-level_asked
+returns-in_err-level_asked c = let p = err_from_is_err_and c.from_residual.result c.from_residual.ensures.1 in
+    rw (p.1, p.2) (ap number_in (sym c.in_err-level_asked.was) ∙ c.level_asked.ensures.number)
 
-pub returns-else-level_asked-lt8 : goal.returns-else-level_asked-lt8
-returns-else-level_asked-lt8 c = level_unknown (message_of c.args.asked.line.now) c.level_asked.ensures c.if-level_asked-lt8.false
+pub returns : goal.returns
+returns c = ap number_in (sym c.in_ok-level_asked.was) ∙ c.level_asked.ensures.number

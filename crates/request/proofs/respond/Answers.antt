@@ -1,15 +1,11 @@
 -- Rows 1 to 6, and then what the line asks.
-use Prim.Native.Nat.{◌≤◌, ◌<◌}
 use native.Mathlib.Omega.{arith}
-use mathlib.Core.Path.{◌≡◌, ap, sym, ◌∙◌}
-use mathlib.Core.Bool.{true, not}
-use lib.ListN.{length}
-use Rattle.machine.specs.Range.{in_range}
+use mathlib.Core.Path.{ap, sym, ◌∙◌}
+use mathlib.Core.Bool.{not}
 use Rattle.machine.specs.Refusals.{number_in}
-use Rattle.machine.specs.Requests.{asked}
-use Rattle.machine.specs.Declined.{Action, Line, line_declined}
+use Rattle.machine.specs.Declined.{Action, Line}
 use Rattle.machine.proofs.RefusalLaws.{not_zero}
-use Rattle.declining.proofs.AnswerLaws.{number_of, turned_away}
+use Rattle.declining.proofs.AnswerLaws.{turned_away}
 use Rattle.request.proofs.GivenLaws.{as_given, nothing_given}
 use Rattle.request.proofs.EffectLaws.{blank_effect, written_effect, declines, passes, answered_line}
 use Rattle.request.proofs.respond.Goals as goal

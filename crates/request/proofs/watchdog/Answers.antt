@@ -7,4 +7,4 @@ use Rattle.request.proofs.watchdog.Goals as goal
 
 pub returns : goal.returns
 unfolding answer
-returns c = replies c.args.asked.line.now c.args.asked.head c.args.asked.read c.name-name.ensures c.args.state c.args.client (text "ok" ∷ []) c.deliver_one-written.ensures c.answered.ensures
+returns c = replies c.args.asked.line.now c.args.asked.head c.args.asked.read c.name-name.ensures c.args.state c.args.client (text "ok" ∷ []) c.deliver-written.ensures c.answered.ensures

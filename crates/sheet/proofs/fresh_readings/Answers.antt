@@ -1,20 +1,12 @@
 -- The readings passed are those of a fresh device, the others are none.
-use Prim.Native.Nat.{ℕ}
 use mathlib.Core.Path.{◌≡◌, refl}
 use native.Mathlib.Omega.{arith}
-use lib.Dec.{ltb}
 use lib.ListN.{replicate}
-use Rattle.machine.specs.declared.Sheet.{Sheet}
-use Rattle.machine.specs.declared.Stored.{Stored}
 use Rattle.machine.specs.Places.{tabulate}
-use Rattle.machine.specs.Sheet.{sensor_of}
-use Rattle.machine.specs.State.{no_stored, fresh_stored, fresh_readings}
+use Rattle.machine.specs.State.{no_stored, fresh_readings}
 use Rattle.machine.proofs.StoreLaws.{filled_one, filled_all}
+use Rattle.sheet.proofs.fresh_readings.Invariants.{fresh_at}
 use Rattle.sheet.proofs.fresh_readings.Goals as goal
-
--- the reading at a place of a fresh device
-abbrev fresh_at : Sheet → ℕ → Stored
-fresh_at sheet j = fresh_stored (ltb j sheet.count) (sensor_of sheet j).kind
 
 pub loop-j-init : goal.loop-j-init
 unfolding tabulate

@@ -12,7 +12,7 @@ use Rattle.machine.specs.State.{no_stored, fresh_stored}
 use Rattle.sheet.proofs.fresh_readings.Given as goal
 
 -- the reading at a place of a fresh device
-abbrev fresh_at : Sheet → ℕ → Stored
+abbrev pub fresh_at : Sheet → ℕ → Stored
 fresh_at sheet j = fresh_stored (ltb j sheet.count) (sensor_of sheet j).kind
 
 abbrev pub invariant-loop-j : goal.invariant-loop-j

@@ -2,4 +2,4 @@
 use Rattle.sheet.proofs.not_opened.Goals as goal
 
 pub returns : goal.returns
-returns c = rw c.blank_state.ensures
+returns c = rw (c.number.ensures, c.blank_state.ensures)

@@ -1,8 +1,6 @@
--- The word at the strategy's place.
-use Rattle.texts.specs.Table.{word_of}
-use Rattle.machine.specs.Messages.{strategy_text}
+-- The word at the kind's place.
+use Rattle.strategies.proofs.KindLaws.{word_is}
 use Rattle.strategies.proofs.put_arg_word.Goals as goal
 
 pub returns : goal.returns
-unfolding strategy_text word_of
-returns c = rw c.word_of.ensures at c.put_arg.ensures
+returns c = rw (word_is c.word_of.ensures c.place.ensures) at c.put_arg.ensures

@@ -10,7 +10,7 @@ pub returns-in-Auto : goal.returns-in-Auto
 returns-in-Auto c = rw c.in-Auto.is blank
 
 pub returns-in-Period : goal.returns-in-Period
-returns-in-Period c = rw c.in-Period.is (alone c.put_arg_time.ensures)
+returns-in-Period c = rw c.in-Period.is (alone c.put_arg_number.ensures)
 
 pub returns-in-Event : goal.returns-in-Event
 returns-in-Event c = rw c.in-Event.is blank

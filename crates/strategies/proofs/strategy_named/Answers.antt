@@ -1,17 +1,11 @@
--- The place of the word in the table of strategies.
-use borrow.Author.Rules.{rules}
+-- The kind at the place of the word in the table of strategies.
 use mathlib.Core.Path.{◌∙◌}
-use Rattle.output.specs.Text.{text}
-use Rattle.texts.specs.Table.{word_of}
-use Rattle.texts.proofs.TableLaws.{place_bound}
-use Rattle.machine.specs.Messages.{strategy_text}
-use Rattle.machine.specs.Requests.{strategy_named}
-use Rattle.machine.proofs.WordTables.{place_first}
+use Rattle.texts.proofs.TableLaws.{copied_at}
+use Rattle.strategies.proofs.KindLaws.{kinds, named_none, named_some}
 use Rattle.strategies.proofs.strategy_named.Goals as goal
 
-pub overflow_cast-result : goal.overflow_cast-result
-overflow_cast-result c = let h = place_bound (text "none|auto|period|event|differential|event-rate|differential-rate") _ c.place_of.ensures in search rules
+pub returns-in_err-place : goal.returns-in_err-place
+returns-in_err-place c = rw c.from_residual.ensures (named_none c.args.word.now c.place_of.ensures c.in_err-place.was)
 
 pub returns : goal.returns
-unfolding strategy_named strategy_text word_of
-returns c = c.place_of.ensures ∙ place_first (text "none|auto|period|event|differential|event-rate|differential-rate") _
+returns c = named_some c.args.word.now c.place_of.ensures c.in_ok-place.place c.in_ok-place.was (c.copied.ensures ∙ copied_at kinds c.in_ok-place.place c.get.result c.get.ensures.lookup)

@@ -1,8 +1,0 @@
--- The calls' facts in a chain.
-use Rattle.message.specs.Message.{write_to}
-use Rattle.output.proofs.OutputLaws.{then}
-use Rattle.message.proofs.line_of_one.Goals as goal
-
-pub returns : goal.returns
-unfolding write_to
-returns c = then c.put_byte-p.ensures (then c.put_bytes-p.ensures (then c.put_id-p.ensures (then c.put_arg-p.ensures c.put_byte.ensures)))
