@@ -25,7 +25,7 @@ use Rattle.machine.specs.Requests.{sends_only}
 use Rattle.machine.specs.State.{no_stored, stored_of, supersedes, with_readings, with_reading}
 use Rattle.machine.proofs.RangeLaws.{range_out, sensors_of}
 use Rattle.machine.proofs.StoreLaws.{set_by_place}
-use Rattle.sampling.specs.Visits.{moment}
+use Rattle.sampling.specs.Visits.{moment, visiting}
 use Rattle.declining.proofs.AnswerLaws.{rows_then, number_of}
 use Rattle.declining.proofs.RowsLaws.{Row, row, row_declines, rows_pass, rows_rest}
 
@@ -82,6 +82,12 @@ module _ (s : State) (j : ℕ) (x : Stored) where
   pub read_newer : supersedes x.time (stored_of s j) ≡ true → length s.readings ≡ 32 → j < 32
       → visit s.sheet (moment s s.clock (set s.readings j x)) (Read j) ≡ reading_left
   read_newer e many h = rw e (ap (λ (t : State). visit s.sheet t (Read j)) (stored_reading s j x many h))
+
+  -- either, of the readings that are handed to the visit
+  pub read_either : {newer : Bool} {readings : List Stored} → newer ≡ supersedes x.time (stored_of s j) → readings ≡ cond newer (set s.readings j x) s.readings
+      → length s.readings ≡ 32 → j < 32 → visiting newer (moment s s.clock readings) (Read j) ≡ reading_left
+  read_either {newer = true} e q many h = rw q (read_newer (sym e) many h)
+  read_either {newer = false} e q many h = rw q (read_older (sym e))
 
 -- The whole call.
 module _ (s : State) (j : ℕ) (g : Given) (time : ℕ) (lent : List ℕ) {good : Bool} (i : good ≡ in_range s) {own : ℕ} (f : own ≡ cond (leb s.sheet.count j) 9 0)

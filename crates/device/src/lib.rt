@@ -2,7 +2,7 @@
 //! the next state; what it answers and what the output holds then are those of `step`, for every argument.
 #![tactic(auto)]
 
-ghost use Rattle.std.specs.Prelude.{◌≡◌, cond, ◌&&◌, [], ◌++◌, ◌/◌, ◌≤◌, ◌<◌, eqb, leb, ltb, length, get_or, Some, IfOk};
+ghost use Rattle.std.specs.Prelude.{◌≡◌, cond, ◌&&◌, [], ◌++◌, ◌/◌, ◌≤◌, ◌<◌, eqb, leb, ltb, length, get_or, set, Some, IfOk};
 ghost use Rattle.output.specs.Output.{output};
 ghost use Rattle.output.specs.Read.{in_time};
 ghost use Rattle.message.specs.Delivery.{to, Sent};
@@ -199,7 +199,7 @@ pub fn tick(state: State, ms: u64, out: &mut [u8]) -> Answer
     if let Err(refusal) = rows {
         return declining::silent(refusal, state);
     }
-    sampling::visit(state, Cause::Tick, ms, state.readings, out)
+    sampling::visit(0, true, state, Cause::Tick, ms, state.readings, out)
 }
 
 // Row 26: a reading of its own time at a clock.
@@ -227,7 +227,15 @@ fn sample_taken(sampled: Option<Sample>, ahead: Result<(), Refusal>) -> Result<S
 fn is_unknown(x: Sample) -> bool
     ensures { result ≡ states.is_unknown x }
 {
-    matches!(x.kind, 0)
+    let kind = x.kind;
+    match kind {
+        0 => true,
+        1 => false,
+        2 => false,
+        3 => false,
+        4 => false,
+        _ => false,
+    }
 }
 
 // Whether a reading of its own time supersedes the stored one.
@@ -235,6 +243,23 @@ fn does_supersede(old: Stored, time: u64) -> bool
     ensures { result ≡ states.supersedes time old }
 {
     (old.time <= time) | is_unknown(old.sample)
+}
+
+// The readings with another at a sensor's place where it supersedes the stored one; else as they were.
+fn store(
+    newer: bool,
+    readings: [Stored; machine::SENSORS],
+    sensor: usize,
+    held: Stored,
+) -> [Stored; machine::SENSORS]
+    requires { sensor < 32 }
+    ensures { result ≡ cond newer (set readings sensor held) readings }
+{
+    let mut next = readings;
+    if newer {
+        next[sensor] = held;
+    }
+    next
 }
 
 // A sensor's reading that brings its own time, in milliseconds. It is stored, and the subscriptions to that sensor visited, where it supersedes
@@ -254,16 +279,17 @@ pub fn reading(state: State, sensor: usize, reading: Reading, time: u64, out: &m
         Ok(sample) => sample,
         Err(refusal) => return declining::silent(refusal, state),
     };
-    let mut readings = state.readings;
-    if !does_supersede(readings[sensor], time) {
-        return Answer {
-            number: 0,
-            written: 0,
-            state: state,
-        };
-    }
-    readings[sensor] = Stored { sample, time };
-    sampling::visit(state, Cause::Reading(sensor), state.clock, readings, out)
+    let newer = does_supersede(state.readings[sensor], time);
+    let readings = store(newer, state.readings, sensor, Stored { sample, time });
+    sampling::visit(
+        0,
+        newer,
+        state,
+        Cause::Reading(sensor),
+        state.clock,
+        readings,
+        out,
+    )
 }
 
 // What is written of a log entry where the level is set to `set`.

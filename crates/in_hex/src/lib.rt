@@ -33,11 +33,15 @@ fn hex_value(b: u8) -> u8
     }
 }
 
-// Whether each byte is a hex digit.
+// Whether each byte is a hex digit. It does not stop at one that is none, so that it takes many bytes at a time.
 fn all_hex(t: &[u8]) -> bool
     ensures { result ≡ all spec.is_hex t.now }
 {
-    t.iter().all(|b| is_hex(*b))
+    let mut ok = true;
+    for b in t {
+        ok = ok & is_hex(*b);
+    }
+    ok
 }
 
 // Whether a word stands for bytes.

@@ -9,7 +9,7 @@ use Rattle.std.specs.List.{slice_split, onto_first, filter}
 use Rattle.std.specs.Option.{option_map, unwrap_or}
 use lib.Dec.{eqb}
 use lib.ListN.{length, get_or, drop}
-use Rattle.output.specs.Text.{run, behind_run}
+use Rattle.output.specs.Text.{behind_run}
 use Rattle.output.specs.Read.{other, up_to, past}
 use Rattle.input.specs.Words.{behind_spaces, word_at, spaces}
 

@@ -41,19 +41,22 @@ pub fn word(line: &[u8], k: usize) -> &[u8]
 }
 
 // How many spaces a line has.
-#[tactic(auto, using(crate::proofs::SpaceLaws::spaces_counted))]
 fn count_spaces(line: &[u8]) -> usize
     ensures { result ≡ spaces line.now }
 {
-    line.iter().filter(|b| **b == b' ').count()
+    let mut n = 0;
+    for b in line {
+        n += usize::from(*b == b' ');
+    }
+    n
 }
 
-// Whether the first word of a line is `first`, with so many more words.
+// Whether the first word of a line is `first`, with so many more words. They are counted only where it is: most lines are asked for most first words.
 #[tactic(auto, unfolding(crate::specs::Words::has_words), using(texts::proofs::SameLaws::same_bytes))]
 pub fn has_words(line: &[u8], first: &[u8], more: usize) -> bool
     ensures { result ≡ has_words first.now more line.now }
 {
-    (word(line, 0) == first) & (count_spaces(line) == more)
+    word(line, 0) == first && count_spaces(line) == more
 }
 
 // Whether a text is a decimal, of any size.

@@ -2,7 +2,7 @@
 //! answered with the bytes that follow it. The rules that the parts keep are not asked here.
 #![tactic(auto)]
 
-ghost use Rattle.std.specs.Prelude.{◌≡◌, ◌≤◌, length, IfSome, List, ℕ, MatchOption};
+ghost use Rattle.std.specs.Prelude.{◌≡◌, ◌≤◌, eqb, length, IfSome, List, ℕ, MatchOption};
 ghost use Rattle.machine.specs.State.{blank_choice, blank_sensor, blank_sheet};
 ghost use Rattle.machine.specs.Opening as opening;
 ghost use Rattle.machine.specs.Opening.{Taken, broken, taken};
@@ -120,19 +120,31 @@ fn padded<const N: usize>(t: &[u8]) -> [u8; N]
     array
 }
 
+// Whether a type's limits are integers, and not counts of 1024ths.
+fn is_integer(kind: u8) -> bool
+    ensures { result ≡ eqb kind 1 }
+{
+    match kind {
+        1 => true,
+        2 => false,
+        3 => false,
+        4 => false,
+        5 => false,
+        _ => false,
+    }
+}
+
 // A limit of a sensor of type `kind`: an integer, or a count of 1024ths.
 #[tactic(auto, unfolding(machine::specs::Opening::limit_at, machine::specs::Opening::bytes_at))]
 fn limit_at(s: &[u8], kind: u8) -> Option<(u64, &[u8])>
     ensures { reads.read result ≡ opening.limit_at kind s.now }
 {
     let (word, rest) = s.split_first_chunk::<4>()?;
-    match kind {
-        1 => Some((value::biased_word(*word), rest)),
-        _ => {
-            let n = value::grid_word(*word)?;
-            Some((n as u64, rest))
-        }
+    if is_integer(kind) {
+        return Some((value::biased_word(*word), rest));
     }
+    let n = value::grid_word(*word)?;
+    Some((n as u64, rest))
 }
 
 #[tactic(auto, unfolding(machine::specs::Opening::two_at))]

@@ -8,6 +8,8 @@ ghost use Rattle.line.specs.Line as spec;
 ghost use Rattle.line.specs.Argument as arguments;
 ghost use Rattle.line.specs.Answer as answers;
 
+use texts::Class;
+
 // The most bytes of a line.
 pub const LONGEST: usize = 2048;
 
@@ -74,21 +76,21 @@ fn known(c: u8) -> bool
 fn lead(s: &[u8]) -> usize
     ensures { result ≡ answers.lead s.now }
 {
-    texts::run_len(s, texts::is_blank)
+    texts::run_len(s, Class::Blank)
 }
 
 // The length of the word that `s` starts with.
 fn word_len(s: &[u8]) -> usize
     ensures { result ≡ length (spec.word s.now) }
 {
-    texts::run_len(s, |b| !texts::is_blank(b))
+    texts::run_len(s, Class::Word)
 }
 
 // The length of the name that `s` starts with.
 fn name_len(s: &[u8]) -> usize
     ensures { result ≡ length (spec.name_of s.now) }
 {
-    texts::run_len(s, texts::is_title_byte)
+    texts::run_len(s, Class::Title)
 }
 
 // Whether a word is plain bytes and known escapes.

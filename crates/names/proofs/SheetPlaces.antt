@@ -6,14 +6,17 @@ use mathlib.Core.Bool.{Bool, true, false, cond}
 use mathlib.Core.List.{List, [], ◌∷◌, map}
 use lib.Dec.{leb}
 use lib.ListN.{length}
+use borrow.Author.Tests.{leb-false}
 use Rattle.output.specs.Text.{same}
 use Rattle.machine.specs.declared.Sheet.{Sheet}
 use Rattle.machine.specs.Places.{tabulate, any, first_below, twice, Each}
 use Rattle.machine.specs.Sheet.{sensor_of, name_of, place_of, not_on_sheet}
 use Rattle.machine.specs.Requests.{all_places, split}
 use Rattle.machine.specs.Declined.{places_declined}
+use Rattle.machine.proofs.PlacesLaws.{each_weaker, each_any_false}
+use Rattle.machine.proofs.CountLaws.{few_distinct}
 use Rattle.machine.proofs.SheetLaws.{places_passed, places_below}
-use Rattle.std.specs.Prelude.{Ok, Err}
+use Rattle.std.specs.Prelude.{Ok, Err, IfOk}
 use Rattle.machine.specs.declared.Refusal.TheVariants.{UnknownSensor, SensorTwice}
 use Rattle.machine.specs.Refusals.{number_in}
 use Rattle.names.specs.declared.Listed.{Listed}
@@ -24,6 +27,20 @@ use Rattle.names.proofs.EveryLaws.{none_past, none_twice}
 map_same : {A B : Type 0} (f g : A → B) → ((x : A) → f x ≡ g x) → (xs : List A) → map f xs ≡ map g xs
 map_same f g e [] = refl
 map_same f g e (x ∷ xs) = rw (e x, map_same f g e xs)
+
+-- A list is no longer than its array, on every sheet.
+
+pub scanned_few : (sheet : Sheet) (js : List ℕ) → IfOk (scanned sheet js) (λ list. list.count ≤ 32)
+unfolding scanned distinctly listing
+scanned_few sheet js = go (any (is_past sheet) js) (twice js) refl refl
+  where
+    inside : any (is_past sheet) js ≡ false → Each (λ j. j < 32) js
+    inside e = each_weaker (λ j. is_past sheet j ≡ false) (λ j. j < 32) (λ j h. omega (arith, leb-false (held sheet) j h)) js (each_any_false (is_past sheet) js e)
+
+    go : (a b : Bool) → any (is_past sheet) js ≡ a → twice js ≡ b → IfOk (cond a (Err UnknownSensor) (cond b (Err SensorTwice) (Ok (listing js)))) (λ list. list.count ≤ 32)
+    go true b e f = tt
+    go false true e f = tt
+    go false false e f = few_distinct 32 js (inside e) f
 
 module _ (sheet : Sheet) (h : sheet.count ≤ 32) where
   pub held_is : held sheet ≡ sheet.count

@@ -69,7 +69,7 @@ pub fn put_decimal(out: &mut [u8], at: usize, n: u64) -> usize
 }
 
 // Whole milliseconds as seconds, point, three digits.
-fn put_time(out: &mut [u8], at: usize, ms: u64) -> usize
+pub fn put_time(out: &mut [u8], at: usize, ms: u64) -> usize
     ensures { Wrote (output out.old at) (time ms) (output out.new result) }
 {
     let p = put_decimal(out, at, ms / 1000);
@@ -116,7 +116,7 @@ fn put_sign(out: &mut [u8], at: usize, is_negative: bool) -> usize
 }
 
 // A signed number: v counts from -2^31.
-fn put_integer(out: &mut [u8], at: usize, v: u64) -> usize
+pub fn put_integer(out: &mut [u8], at: usize, v: u64) -> usize
     ensures { Wrote (output out.old at) (integer v) (output out.new result) }
 {
     let p = put_sign(out, at, v < INTEGER_ZERO);
@@ -124,7 +124,7 @@ fn put_integer(out: &mut [u8], at: usize, v: u64) -> usize
 }
 
 // A float: v counts 1024ths from -2^30. Exact, without trailing zeros, one fraction digit at least.
-fn put_float(out: &mut [u8], at: usize, v: u64) -> usize
+pub fn put_float(out: &mut [u8], at: usize, v: u64) -> usize
     ensures { Wrote (output out.old at) (float v) (output out.new result) }
 {
     let p = put_sign(out, at, v < FLOAT_ZERO);
@@ -132,14 +132,14 @@ fn put_float(out: &mut [u8], at: usize, v: u64) -> usize
 }
 
 // A difference of d millionths, written like a float.
-fn put_difference(out: &mut [u8], at: usize, d: u64) -> usize
+pub fn put_difference(out: &mut [u8], at: usize, d: u64) -> usize
     ensures { Wrote (output out.old at) (difference d) (output out.new result) }
 {
     put_fixed(out, at, d, MILLIONTHS, 6)
 }
 
 // A difference of d millionths, written as an integer: its whole part.
-fn put_whole_difference(out: &mut [u8], at: usize, d: u64) -> usize
+pub fn put_whole_difference(out: &mut [u8], at: usize, d: u64) -> usize
     ensures { Wrote (output out.old at) (whole_difference d) (output out.new result) }
 {
     put_decimal(out, at, d / MILLIONTHS)

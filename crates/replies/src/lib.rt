@@ -280,6 +280,7 @@ pub fn version_list(out: &mut [u8], client: u8, name: &[u8], id: u64, sheet: She
 }
 
 // The word of a type as an argument.
+#[tactic(auto, unfolding(machine::specs::Messages::type_text))]
 fn put_arg_type(out: &mut [u8], at: usize, kind: u8) -> usize
     ensures { Wrote (output out.old at) (arg (messages.type_text kind)) (output out.new result) }
 {
@@ -289,6 +290,7 @@ fn put_arg_type(out: &mut [u8], at: usize, kind: u8) -> usize
         2 => message::put_arg(out, at, b"float"),
         3 => message::put_arg(out, at, b"boolean"),
         4 => message::put_arg(out, at, b"discrete"),
+        5 => message::put_arg(out, at, b"timestamp"),
         _ => message::put_arg(out, at, b"timestamp"),
     }
 }

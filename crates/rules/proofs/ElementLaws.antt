@@ -6,7 +6,7 @@ use mathlib.Core.List.{List, [], ◌∷◌}
 use lib.ListN.{length, get_or}
 use mir.Val.{Val}
 use base.Fml.{Fml}
-use denote.Array.{each}
+use denote.Array.{each, in_array}
 use denote.Shadow.{shadow}
 use denote.Struct.Declared as declared
 use borrow.Author.Rules.{rules}
@@ -28,26 +28,25 @@ module _ (D : Type 0) (own : D → List Val → Fml) where
   element_at (x ∷ xs) (u ∷ us) zero z h l = (u, h.0)
   element_at (x ∷ xs) (u ∷ us) (suc i) z h l = element_at xs us i z h.1 (omega arith)
 
+-- the texts of an array of options
+pub choices_long : (os : List Choice) (vs : List Val) → shadow (in_array Choice (declared.row choice-type).own_val 8 os vs) → Whole os
+choices_long os vs h k l =
+    let e : length os ≡ 8 = h.1.0.1 in
+    let g = element_at Choice (declared.row choice-type).own_val os h.0 k no_choice h.1.1 (omega arith) in
+    search rules
+
 -- the texts of the options of a sensor
-options_long : (n : Sensor) (vs : List Val) → shadow ((declared.row sensor-type).own_val n vs) → Whole n.options
+pub options_long : (n : Sensor) (vs : List Val) → shadow ((declared.row sensor-type).own_val n vs) → Whole n.options
 options_long n vs h k l =
     let f = h.1.1.1.1.1.1.1.1.1.1.1.0 in
     let e = options_many n vs h in
     let g = element_at Choice (declared.row choice-type).own_val n.options f.0 k no_choice f.1.1 (omega arith) in
     search rules
 
-module _ (sheet : Sheet) (vs : List Val) (h : shadow ((declared.row sheet-type).own_val sheet vs)) (j : ℕ) (l : j < 32) where
-  -- what is known of a sensor of a sheet
-  sensor_at : (u : Val) × shadow ((declared.row sensor-type).own_val (sensor_of sheet j) (u ∷ []))
-  sensor_at =
-      let f = h.1.1.1.1.1.1.1.1.0 in
-      let e : length sheet.sensors ≡ 32 = f.1.0.1 in
-      element_at Sensor (declared.row sensor-type).own_val sheet.sensors f.0 j no_sensor f.1.1 (omega arith)
-
-  -- its name
-  pub names_long : length (sensor_of sheet j).name ≡ 32
-  names_long = let g = sensor_at in search rules
-
-  -- its options
-  pub sheet_options_long : Whole (sensor_of sheet j).options
-  sheet_options_long = options_long (sensor_of sheet j) (sensor_at.0 ∷ []) sensor_at.1
+-- the names of a sheet's sensors
+pub names_long : (sheet : Sheet) (vs : List Val) → shadow ((declared.row sheet-type).own_val sheet vs) → (j : ℕ) → j < 32 → length (sensor_of sheet j).name ≡ 32
+names_long sheet vs h j l =
+    let f = h.1.1.1.1.1.1.1.1.0 in
+    let e : length sheet.sensors ≡ 32 = f.1.0.1 in
+    let g = element_at Sensor (declared.row sensor-type).own_val sheet.sensors f.0 j no_sensor f.1.1 (omega arith) in
+    search rules

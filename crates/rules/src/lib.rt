@@ -7,7 +7,7 @@ ghost use Rattle.std.specs.List.{list_all};
 ghost use Rattle.machine.specs.Places.{all_below};
 ghost use Rattle.machine.specs.Sheet as sheets;
 ghost use Rattle.machine.specs.Range.{client_ok};
-ghost use Rattle.rules.specs.Texts.{in_charset, Whole};
+ghost use Rattle.rules.specs.Texts.{in_charset};
 ghost use Rattle.rules.specs.Apart.{alike, choices_apart, names_apart};
 ghost use Rattle.rules.specs.Keys as key;
 ghost use Rattle.rules.specs.Found.{sensors_found};
@@ -89,6 +89,10 @@ fn limit_ok(kind: u8, n: u64) -> bool
 {
     match kind {
         1 => n < value::INTEGERS,
+        2 => n <= value::MOST_FLOAT,
+        3 => n <= value::MOST_FLOAT,
+        4 => n <= value::MOST_FLOAT,
+        5 => n <= value::MOST_FLOAT,
         _ => n <= value::MOST_FLOAT,
     }
 }
@@ -125,42 +129,46 @@ fn limits_ok(kind: u8, l: Limits) -> bool
     none | (value::is_measured(kind) & (two | four))
 }
 
-// A place that holds no option.
-fn choice_none(o: &Choice) -> bool
-    ensures { result ≡ sheets.choice_none o.now }
+// A place that holds no option. Its text is compared as one number, since that takes fewer steps than byte by byte.
+fn choice_none(o: Choice) -> bool
+    ensures { result ≡ sheets.choice_none o }
 {
-    let mut zero = true;
-    for b in &o.text {
-        zero = zero & (*b == 0);
-    }
-    (o.len == 0) & zero
+    let text = u128::from_le_bytes(o.text);
+    (o.len == 0) & (text == 0)
 }
 
-fn choices_none(options: &[Choice; machine::OPTIONS]) -> bool
-    ensures { result ≡ all_below (λ k. sheets.choice_none (get_or options.now k sheets.no_choice)) 8 }
+fn choices_none(options: [Choice; machine::OPTIONS]) -> bool
+    ensures { result ≡ all_below (λ k. sheets.choice_none (get_or options k sheets.no_choice)) 8 }
 {
     let mut ok = true;
-    for o in options {
+    for k in 0..machine::OPTIONS {
+        let o = options[k];
         ok = ok & choice_none(o);
     }
     ok
 }
 
-// Place k of `count` options: an option, or nothing.
-fn choice_ok(count: u8, k: usize, o: &Choice) -> bool
-    ensures { result ≡ sheets.choice_ok count k o.now }
+// Place k of `count` options: an option, or nothing. The same pass with other bounds.
+fn choice_ok(count: u8, k: usize, o: Choice) -> bool
+    ensures { result ≡ sheets.choice_ok count k o }
 {
-    if k < usize::from(count) {
-        return text_ok(&o.text, o.len, 1, machine::LONGEST_OPTION, Charset::Name);
-    }
-    choice_none(o)
+    let there = k < usize::from(count);
+    let text = o.text;
+    text_ok(
+        &text,
+        o.len,
+        bound(there, 1),
+        bound(there, machine::LONGEST_OPTION),
+        Charset::Name,
+    )
 }
 
-fn choices_ok(count: u8, options: &[Choice; machine::OPTIONS]) -> bool
-    ensures { result ≡ all_below (λ k. sheets.choice_ok count k (get_or options.now k sheets.no_choice)) 8 }
+fn choices_ok(count: u8, options: [Choice; machine::OPTIONS]) -> bool
+    ensures { result ≡ all_below (λ k. sheets.choice_ok count k (get_or options k sheets.no_choice)) 8 }
 {
     let mut ok = true;
-    for (k, o) in options.iter().enumerate() {
+    for k in 0..machine::OPTIONS {
+        let o = options[k];
         ok = ok & choice_ok(count, k, o);
     }
     ok
@@ -220,16 +228,22 @@ fn keys_apart(keys: &[u32]) -> bool
     requires { length keys.now ≤ 32 }
     ensures { result ≡ list_all (λ own. eqb (count_by (λ k. eqb k own) keys.now) 1) keys.now }
 {
-    keys.iter().all(|own| times(keys, *own) == 1)
+    let mut ok = true;
+    for own in keys {
+        ok = ok & (times(keys, *own) == 1);
+    }
+    ok
 }
 
 // The keys of the options; 0 behind them.
-fn choice_keys(options: &[Choice; machine::OPTIONS]) -> [u32; machine::SENSORS]
-    ensures { result ≡ key.choice_keys options.now }
+fn choice_keys(options: [Choice; machine::OPTIONS]) -> [u32; machine::SENSORS]
+    ensures { result ≡ key.choice_keys options }
 {
     let mut keys: [u32; machine::SENSORS] = [0; machine::SENSORS];
-    for (k, o) in options.iter().enumerate() {
-        keys[k] = choice_key(&o.text);
+    for k in 0..machine::OPTIONS {
+        let o = options[k];
+        let text = o.text;
+        keys[k] = choice_key(&text);
     }
     keys
 }
@@ -245,26 +259,28 @@ fn alike_texts(a_len: u8, a: &[u8], b_len: u8, b: &[u8]) -> bool
 const OPTION_PAIRS: usize = machine::OPTIONS * machine::OPTIONS;
 
 // Options compared with each other, whole arrays.
-fn choices_compared(count: u8, options: &[Choice; machine::OPTIONS]) -> bool
-    ensures { result ≡ choices_apart count options.now }
+fn choices_compared(count: u8, options: [Choice; machine::OPTIONS]) -> bool
+    ensures { result ≡ choices_apart count options }
 {
     let n = usize::from(count);
     let mut ok = true;
     for q in 0..OPTION_PAIRS {
         let i = q % machine::OPTIONS;
         let j = q / machine::OPTIONS;
-        let one = &options[i];
-        let other = &options[j];
-        let like = alike_texts(one.len, &one.text, other.len, &other.text);
+        let one = options[i];
+        let other = options[j];
+        let a = one.text;
+        let b = other.text;
+        let like = alike_texts(one.len, &a, other.len, &b);
         ok = ok & ((n <= j) | ((j <= i) | !like));
     }
     ok
 }
 
 // Whether no two options are alike: by their keys, and compared whole where two keys are the same.
-fn choices_apart(count: u8, options: &[Choice; machine::OPTIONS]) -> bool
+fn choices_apart(count: u8, options: [Choice; machine::OPTIONS]) -> bool
     requires { count ≤ 8 }
-    ensures { result ≡ choices_apart count options.now }
+    ensures { result ≡ choices_apart count options }
 {
     let keys = choice_keys(options);
     if keys_apart(&keys[..usize::from(count)]) {
@@ -273,12 +289,11 @@ fn choices_apart(count: u8, options: &[Choice; machine::OPTIONS]) -> bool
     choices_compared(count, options)
 }
 
-fn options_ok(sensor: &Sensor) -> bool
-    requires { Whole sensor.now.options }
-    ensures { result ≡ sheets.options_ok sensor.now }
+fn options_ok(sensor: Sensor) -> bool
+    ensures { result ≡ sheets.options_ok sensor }
 {
     let count = sensor.option_count;
-    let options = &sensor.options;
+    let options = sensor.options;
     let discrete = value::is_discrete(sensor.kind);
     if count == 0 {
         return !discrete & choices_none(options);
@@ -302,28 +317,30 @@ fn limits_at(there: bool, kind: u8, l: Limits) -> bool
 }
 
 // The place of a sensor that is on the sheet, or of none: the same passes with other bounds.
-fn sensor_ok_at(there: bool, sensor: &Sensor) -> bool
-    requires { Whole sensor.now.options }
-    ensures { result ≡ cond there (sheets.sensor_ok sensor.now) (sheets.sensor_none sensor.now) }
+fn sensor_ok_at(there: bool, sensor: Sensor) -> bool
+    ensures { result ≡ cond there (sheets.sensor_ok sensor) (sheets.sensor_none sensor) }
 {
+    let name = sensor.name;
+    let description = sensor.description;
+    let units = sensor.units;
     let kind = sensor.kind;
     let one = bound(there, 1);
     let named = text_ok(
-        &sensor.name,
+        &name,
         sensor.name_len,
         one,
         bound(there, machine::LONGEST_NAME),
         Charset::Name,
     );
     let described = text_ok(
-        &sensor.description,
+        &description,
         sensor.description_len,
         0,
         bound(there, machine::LONGEST_DESCRIPTION),
         Charset::Printable,
     );
     let measured = text_ok(
-        &sensor.units,
+        &units,
         sensor.units_len,
         0,
         bound(there, machine::LONGEST_UNITS),
@@ -339,17 +356,19 @@ fn sensor_ok_at(there: bool, sensor: &Sensor) -> bool
 const SENSOR_PAIRS: usize = machine::SENSORS * machine::SENSORS;
 
 // Names compared with each other, whole arrays.
-fn names_compared(sheet: &Sheet) -> bool
-    ensures { result ≡ names_apart sheet.now }
+fn names_compared(sheet: Sheet) -> bool
+    ensures { result ≡ names_apart sheet }
 {
     let count = usize::from(sheet.count);
     let mut ok = true;
     for q in 0..SENSOR_PAIRS {
         let i = q % machine::SENSORS;
         let j = q / machine::SENSORS;
-        let one = &sheet.sensors[i];
-        let other = &sheet.sensors[j];
-        let like = alike_texts(one.name_len, &one.name, other.name_len, &other.name);
+        let one = sheet.sensors[i];
+        let other = sheet.sensors[j];
+        let a = one.name;
+        let b = other.name;
+        let like = alike_texts(one.name_len, &a, other.name_len, &b);
         ok = ok & ((count <= j) | ((j <= i) | !like));
     }
     ok
@@ -364,7 +383,7 @@ pub struct Sensors {
 }
 
 // The sensors of a sheet: their number, each of them, and that their names are distinct, by their keys, and compared whole where two keys
-// are the same.
+// are the same. Each is taken out, and handed on by value: were one lent where it stands, the compiler would copy the whole sheet for it.
 pub fn sensors_found(sheet: Sheet) -> Sensors
     ensures { result ≡ sensors_found sheet }
 {
@@ -373,15 +392,17 @@ pub fn sensors_found(sheet: Sheet) -> Sensors
     let mut kinds: [u8; machine::SENSORS] = [0; machine::SENSORS];
     let mut options: [u8; machine::SENSORS] = [0; machine::SENSORS];
     let mut keys: [u32; machine::SENSORS] = [0; machine::SENSORS];
-    for (j, sensor) in sheet.sensors.iter().enumerate() {
+    for j in 0..machine::SENSORS {
+        let sensor = sheet.sensors[j];
+        let name = sensor.name;
         ok = ok & sensor_ok_at(j < count, sensor);
         kinds[j] = sensor.kind;
         options[j] = sensor.option_count;
-        keys[j] = name_key(&sensor.name);
+        keys[j] = name_key(&name);
     }
     let held = count.min(machine::SENSORS);
     if !keys_apart(&keys[..held]) {
-        ok = ok & names_compared(&sheet);
+        ok = ok & names_compared(sheet);
     }
     Sensors {
         ok: (count <= machine::SENSORS) & ok,
@@ -390,25 +411,37 @@ pub fn sensors_found(sheet: Sheet) -> Sensors
     }
 }
 
-// The API text and the build text, of so many bytes each.
-fn titles_fit(sheet: &Sheet, least: u8, most: u8) -> bool
-    ensures { result ≡ (sheets.text_ok least most sheets.graphic sheet.now.api_len sheet.now.api && sheets.text_ok least most sheets.graphic sheet.now.build_len sheet.now.build) }
-{
-    let first = text_ok(&sheet.api, sheet.api_len, least, most, Charset::Graphic);
-    let second = text_ok(&sheet.build, sheet.build_len, least, most, Charset::Graphic);
-    first & second
-}
-
-// The API text and the build text.
+// The API text and the build text. As in `titles_none`, the texts are tested right here: a function of both that is called twice would make
+// the compiler keep a copy of the sheet.
 pub fn titles_ok(sheet: Sheet) -> bool
     ensures { result ≡ sheets.titles_ok sheet }
 {
-    titles_fit(&sheet, 1, machine::LONGEST_TITLE)
+    let api = sheet.api;
+    let build = sheet.build;
+    let first = text_ok(
+        &api,
+        sheet.api_len,
+        1,
+        machine::LONGEST_TITLE,
+        Charset::Graphic,
+    );
+    let second = text_ok(
+        &build,
+        sheet.build_len,
+        1,
+        machine::LONGEST_TITLE,
+        Charset::Graphic,
+    );
+    first & second
 }
 
 // Both empty, as the blank state has them.
 pub fn titles_none(sheet: Sheet) -> bool
     ensures { result ≡ sheets.titles_none sheet }
 {
-    titles_fit(&sheet, 0, 0)
+    let api = sheet.api;
+    let build = sheet.build;
+    let first = text_ok(&api, sheet.api_len, 0, 0, Charset::Graphic);
+    let second = text_ok(&build, sheet.build_len, 0, 0, Charset::Graphic);
+    first & second
 }

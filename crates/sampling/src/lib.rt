@@ -49,12 +49,17 @@ const LOWEST_MILLION: u64 = 15625;
 fn is_beyond(sensor: Sensor, difference: u64, units: u64) -> bool
     ensures { result ≡ reports.beyond sensor difference units }
 {
-    match sensor.kind {
+    let kind = sensor.kind;
+    match kind {
+        1 => difference / output::MILLIONTHS < units,
         2 => {
             let whole = LOWEST_1024 * (difference / LOWEST_MILLION);
             let rest = LOWEST_1024 * (difference % LOWEST_MILLION) / LOWEST_MILLION;
             whole + rest < units
         }
+        3 => difference / output::MILLIONTHS < units,
+        4 => difference / output::MILLIONTHS < units,
+        5 => difference / output::MILLIONTHS < units,
         _ => difference / output::MILLIONTHS < units,
     }
 }
@@ -63,7 +68,15 @@ fn is_beyond(sensor: Sensor, difference: u64, units: u64) -> bool
 fn is_valid(x: Sample) -> bool
     ensures { result ≡ reports.is_valid x }
 {
-    matches!(x.kind, 1)
+    let kind = x.kind;
+    match kind {
+        0 => false,
+        1 => true,
+        2 => false,
+        3 => false,
+        4 => false,
+        _ => false,
+    }
 }
 
 // Whether the status changed since the last report, or the value by more than the difference.
@@ -229,10 +242,13 @@ fn after_report(clock: u64, present: Sample, pair: Subscription) -> Subscription
     }
 }
 
-// The first place that a visit goes to; 256, behind all places, where there is no such sensor.
-fn first_place(cause: Cause) -> usize
-    ensures { result ≡ visits.first_place cause }
+// The first place that the visit of a call goes to; 256, behind all places, where it goes to none.
+fn first_place(visiting: bool, cause: Cause) -> usize
+    ensures { result ≡ visits.first_place visiting cause }
 {
+    if !visiting {
+        return machine::PAIRS;
+    }
     match cause {
         Cause::Tick => 0,
         Cause::Reading(j) => {
@@ -290,17 +306,21 @@ pub fn with_strategy(
 }
 
 // The answer of a call that visits subscriptions, clients by their number, each in sheet order, once clock and readings are these. A pair is
-// asked for its strategy first, and its sensor only where that can report.
+// asked for its strategy first, and its sensor only where that can report. A call that is not `visiting` visits none (a row declines it, or its
+// reading is older than the stored one): with the clock and the readings of the state it leaves the state as it was. There is one exit, so that
+// the answer is written once.
 pub fn visit(
+    number: u8,
+    visiting: bool,
     s: State,
     cause: Cause,
     clock: u64,
     readings: [Stored; machine::SENSORS],
     out: &mut [u8],
 ) -> Answer
-    ensures number_value { result.number ≡ 0 }
-    ensures state_value { result.state ≡ (reports.visit s.sheet (visits.moment s clock readings) cause).next }
-    ensures sent { Sent (output out.old 0) (reports.visit s.sheet (visits.moment s clock readings) cause).sent (output out.new result.written) }
+    ensures number_value { result.number ≡ number }
+    ensures state_value { result.state ≡ (visits.visiting visiting (visits.moment s clock readings) cause).next }
+    ensures sent { Sent (output out.old 0) (visits.visiting visiting (visits.moment s clock readings) cause).sent (output out.new result.written) }
 {
     let sheet = s.sheet;
     let clients = s.clients;
@@ -308,7 +328,7 @@ pub fn visit(
     let count = sheet.count as usize;
     let reading = by_reading(cause);
     let mut at: usize = 0;
-    let mut p = first_place(cause);
+    let mut p = first_place(visiting, cause);
     while p < machine::PAIRS {
         let c = p / machine::SENSORS;
         let j = p % machine::SENSORS;
@@ -337,7 +357,7 @@ pub fn visit(
         subscriptions: pairs,
     };
     Answer {
-        number: 0,
+        number: number,
         written: at,
         state: next,
     }

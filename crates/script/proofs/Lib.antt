@@ -1,3 +1,4 @@
 pub mod BytesLaws
+pub mod KindLaws
 pub mod ReadingLaws
 pub mod ReplayLaws

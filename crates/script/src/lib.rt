@@ -110,44 +110,24 @@ fn without_value(r: Reading, t: &[u8]) -> Option<Reading>
     if texts::same(t, b"-") { Some(r) } else { None }
 }
 
-// A reading of a kind that has no value.
-#[tactic(auto, unfolding(crate::specs::Script::without_number))]
-fn without_number(kind: &[u8], t: &[u8]) -> Option<Reading>
-    ensures { result ≡ scripts.without_number kind.now t.now }
-{
-    if texts::same(kind, b"failure") {
-        return without_value(Reading::Failure, t);
-    }
-    if texts::same(kind, b"unreachable") {
-        return without_value(Reading::Unreachable, t);
-    }
-    if texts::same(kind, b"inactive") {
-        return without_value(Reading::Inactive, t);
-    }
-    None
-}
+// The words of readings.
+const READINGS: [u8; 67] = *b"integer|float|boolean|option|timestamp|failure|unreachable|inactive";
 
 // The reading of a kind and a value.
-#[tactic(auto, unfolding(crate::specs::Script::given))]
 fn reading_of(kind: &[u8], t: &[u8]) -> Option<Reading>
     ensures { result ≡ scripts.given kind.now t.now }
 {
-    if texts::same(kind, b"integer") {
-        return integer_of(t);
+    match texts::place_of(&READINGS, kind) {
+        Some(0) => integer_of(t),
+        Some(1) => float_of(t),
+        Some(2) => boolean_of(t),
+        Some(3) => option_of(t),
+        Some(4) => timestamp_of(t),
+        Some(5) => without_value(Reading::Failure, t),
+        Some(6) => without_value(Reading::Unreachable, t),
+        Some(7) => without_value(Reading::Inactive, t),
+        _ => None,
     }
-    if texts::same(kind, b"float") {
-        return float_of(t);
-    }
-    if texts::same(kind, b"boolean") {
-        return boolean_of(t);
-    }
-    if texts::same(kind, b"option") {
-        return option_of(t);
-    }
-    if texts::same(kind, b"timestamp") {
-        return timestamp_of(t);
-    }
-    without_number(kind, t)
 }
 
 // Calls.
@@ -274,17 +254,6 @@ fn lent_len(line: &[u8], len: usize) -> usize
     n.min(len as u64) as usize
 }
 
-// An answer without output.
-fn quiet(number: u8, state: State) -> Answer
-    ensures { result ≡ replays.quiet number state }
-{
-    Answer {
-        number: number,
-        written: 0,
-        state: state,
-    }
-}
-
 // The calls that take bytes of the line.
 
 fn open_sheet(line: &[u8], profile: u8) -> Answer
@@ -294,7 +263,7 @@ fn open_sheet(line: &[u8], profile: u8) -> Answer
     let mut sheet = [0u8; MOST_BYTES];
     let n = in_hex::put_bytes_of(&mut sheet, 0, input::word(line, 1));
     let opened = device::open(profile, &sheet[..n]);
-    quiet(opened.number, opened.state)
+    declining::silent(opened.number, opened.state)
 }
 
 fn connect(state: State, line: &[u8], client: usize, out: &mut [u8]) -> Answer
@@ -337,10 +306,10 @@ fn carry_out(state: State, line: &[u8], command: Option<Command>, out: &mut [u8]
     ensures out_after { out.new ≡ replays.left state out.old (replays.asking line.now command) }
 {
     let Some(call) = command else {
-        return quiet(0, state);
+        return declining::silent(0u8, state);
     };
     match call {
-        Command::Passed => quiet(0, state),
+        Command::Passed => declining::silent(0u8, state),
         Command::Open(profile) => open_sheet(line, profile),
         Command::Connect(client) => connect(state, line, client, out),
         Command::Disconnect(client) => device::disconnect(state, client, out),
@@ -361,7 +330,7 @@ pub fn perform(state: State, line: &[u8], out: &mut [u8]) -> Performed
     if LONGEST_LINE < line.len() {
         return Performed {
             command: None,
-            answer: quiet(0, state),
+            answer: declining::silent(0u8, state),
         };
     }
     let command = command_of(state.clock, line);

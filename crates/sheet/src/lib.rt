@@ -122,6 +122,7 @@ pub fn open(profile: u8, sheet: &[u8]) -> Opened
 }
 
 // A stored number of a valid value of a type.
+#[tactic(auto, unfolding(value::specs::Reading::number_fits))]
 fn number_fits(kind: u8, options: u8, n: u64) -> bool
     ensures { result ≡ readings.number_fits kind options n }
 {
@@ -130,17 +131,24 @@ fn number_fits(kind: u8, options: u8, n: u64) -> bool
         2 => n <= value::MOST_FLOAT,
         3 => n <= 1,
         4 => n < u64::from(options),
+        5 => n <= value::LAST_TIME,
         _ => n <= value::LAST_TIME,
     }
 }
 
 // A sample that a sensor of a type can have.
+#[tactic(auto, unfolding(value::specs::Reading::sample_fits))]
 fn sample_ok(kind: u8, options: u8, x: Sample) -> bool
     ensures { result ≡ readings.sample_fits kind options x }
 {
-    match x.kind {
+    let own = x.kind;
+    match own {
+        0 => x.number == value::zero_of(kind),
         1 => number_fits(kind, options, x.number),
-        _ => (x.kind <= 4) & (x.number == value::zero_of(kind)),
+        2 => x.number == value::zero_of(kind),
+        3 => x.number == value::zero_of(kind),
+        4 => x.number == value::zero_of(kind),
+        _ => false,
     }
 }
 
@@ -206,12 +214,16 @@ fn rates_ok(shortest: u64, longest: u64) -> bool
     (shortest <= longest) & period_ok(longest)
 }
 
+#[tactic(auto, unfolding(machine::specs::Range::difference_ok))]
 fn difference_ok(kind: u8, d: u64) -> bool
     ensures { result ≡ ranges.difference_ok kind d }
 {
     match kind {
         1 => (d <= 4294967295000000) & (d % output::MILLIONTHS == 0),
         2 => d <= value::MOST_FLOAT_DIFFERENCE,
+        3 => false,
+        4 => false,
+        5 => false,
         _ => false,
     }
 }

@@ -82,11 +82,17 @@ fn put_arg_word(out: &mut [u8], at: usize, kind: Kind) -> usize
 }
 
 // A difference as it is written for a sensor.
+#[tactic(auto, unfolding(machine::specs::Messages::difference_text))]
 fn put_arg_difference(out: &mut [u8], at: usize, sensor: Sensor, difference: u64) -> usize
     ensures { Wrote (output out.old at) (arg (messages.difference_text sensor difference)) (output out.new result) }
 {
-    match sensor.kind {
+    let kind = sensor.kind;
+    match kind {
         1 => message::put_arg_number(out, at, Notation::WholeDifference, difference),
+        2 => message::put_arg_number(out, at, Notation::Difference, difference),
+        3 => message::put_arg_number(out, at, Notation::Difference, difference),
+        4 => message::put_arg_number(out, at, Notation::Difference, difference),
+        5 => message::put_arg_number(out, at, Notation::Difference, difference),
         _ => message::put_arg_number(out, at, Notation::Difference, difference),
     }
 }
@@ -183,6 +189,10 @@ fn difference_for(kind: u8, text: &[u8]) -> Option<u64>
 {
     match kind {
         1 => value::read_integer_difference(text),
+        2 => value::read_float_difference(text),
+        3 => value::read_float_difference(text),
+        4 => value::read_float_difference(text),
+        5 => value::read_float_difference(text),
         _ => value::read_float_difference(text),
     }
 }

@@ -1,1 +1,3 @@
+pub mod FilledLaws
+pub mod TurnLaws
 pub mod KnownLaws

@@ -2,6 +2,9 @@
 use Rattle.std.specs.Prelude.{ℕ, Bool, false, not, ◌&&◌, ◌||◌, List, [], ◌∷◌, eqb, leb}
 use Prim.Native.Char.{code}
 use Rattle.output.specs.Text.{is_digit}
+use Rattle.output.specs.Read.{other}
+use Rattle.texts.specs.declared.Class.{Class}
+use Rattle.texts.specs.declared.Class.TheVariants.{Blank, Word, Title, Digit, Other}
 
 -- a space or a tab
 unfoldable pub blank : ℕ → Bool
@@ -22,6 +25,14 @@ title_byte b = letter b || (is_digit b || eqb b (code "-"))
 -- a name byte, of a sensor's name: "a-z A-Z 0-9 . - _"
 unfoldable pub name_byte : ℕ → Bool
 name_byte b = letter b || (is_digit b || (eqb b (code ".") || (eqb b (code "-") || eqb b (code "_"))))
+
+-- whether a byte is of a class
+abbrev pub in_class : Class → ℕ → Bool
+in_class Blank = blank
+in_class Word = word_byte
+in_class Title = title_byte
+in_class Digit = is_digit
+in_class (Other x) = other x
 
 -- whether a text begins with a byte
 abbrev pub begins : ℕ → List ℕ → Bool

@@ -10,6 +10,16 @@ ghost use Rattle.texts.specs.Table as tables;
 // What parts the words of a table.
 const BAR: u8 = b'|';
 
+// Classes of bytes: spaces and tabs, and all others; those of a message's name; digits; every byte but one.
+#[derive(Clone, Copy)]
+pub enum Class {
+    Blank,
+    Word,
+    Title,
+    Digit,
+    Other(u8),
+}
+
 // Whether two texts are the same.
 pub fn same(a: &[u8], b: &[u8]) -> bool
     ensures { result ≡ text.same a.now b.now }
@@ -54,12 +64,12 @@ pub fn is_letter(b: u8) -> bool
     b.is_ascii_alphabetic()
 }
 
-// A byte of a sensor's name.
+// A byte of a sensor's name: without a branch, so that the check of a text takes many bytes at a time.
 #[tactic(auto, unfolding(crate::specs::Class::name_byte))]
 pub fn is_name_byte(b: u8) -> bool
     ensures { result ≡ classes.name_byte b }
 {
-    is_letter(b) || is_digit(b) || matches!(b, b'.' | b'-' | b'_')
+    is_letter(b) | (is_digit(b) | ((b == b'.') | ((b == b'-') | (b == b'_'))))
 }
 
 // A byte of a message's name.
@@ -79,18 +89,32 @@ pub fn is_blank(b: u8) -> bool
 }
 
 // How many bytes a text starts with for which `is` answers true.
-pub fn run_len<F: Fn(u8) -> bool>(s: &[u8], is: F) -> usize
+fn run_where<F: Fn(u8) -> bool>(s: &[u8], is: F) -> usize
     requires { F.IsAlwaysCallable is }
     ensures { (test : ℕ → Bool) → ((b : ℕ) (r : Bool) → F.post is b r → r ≡ test b) → result ≡ length (text.run test s.now) }
 {
     s.iter().take_while(|b| is(**b)).count()
 }
 
+// How many bytes of a class a text starts with.
+// kept: a class and not a test of the caller's, since a closure that is handed in has to be one that may be called, and so asks that of the caller.
+pub fn run_len(s: &[u8], class: Class) -> usize
+    ensures { result ≡ length (text.run (classes.in_class class) s.now) }
+{
+    match class {
+        Class::Blank => run_where(s, is_blank),
+        Class::Word => run_where(s, |b| !is_blank(b)),
+        Class::Title => run_where(s, is_title_byte),
+        Class::Digit => run_where(s, is_digit),
+        Class::Other(stop) => run_where(s, |b| b != stop),
+    }
+}
+
 // How many digits a text starts with.
 pub fn digits_len(s: &[u8]) -> usize
     ensures { result ≡ length (text.run text.is_digit s.now) }
 {
-    run_len(s, is_digit)
+    run_len(s, Class::Digit)
 }
 
 // The digits that a text starts with.
@@ -111,7 +135,7 @@ pub fn behind_digits(s: &[u8]) -> &[u8]
 pub fn len_before(s: &[u8], stop: u8) -> usize
     ensures { result ≡ length (up_to stop s.now) }
 {
-    run_len(s, |b| b != stop)
+    run_len(s, Class::Other(stop))
 }
 
 // What stands behind the first byte `stop` of a text; nothing where it has none.

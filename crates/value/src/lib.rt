@@ -172,14 +172,28 @@ fn float_sample(x: f64) -> Option<Sample>
 pub fn is_measured(kind: u8) -> bool
     ensures { result ≡ is_measured kind }
 {
-    matches!(kind, 1 | 2)
+    match kind {
+        1 => true,
+        2 => true,
+        3 => false,
+        4 => false,
+        5 => false,
+        _ => false,
+    }
 }
 
 // Whether a type has options: discrete.
 pub fn is_discrete(kind: u8) -> bool
     ensures { result ≡ eqb kind 4 }
 {
-    matches!(kind, 4)
+    match kind {
+        1 => false,
+        2 => false,
+        3 => false,
+        4 => true,
+        5 => false,
+        _ => false,
+    }
 }
 
 // The stored number of a type's zero.
@@ -190,6 +204,9 @@ pub fn zero_of(kind: u8) -> u64
     match kind {
         1 => output::INTEGER_ZERO,
         2 => output::FLOAT_ZERO,
+        3 => 0,
+        4 => 0,
+        5 => 0,
         _ => 0,
     }
 }
@@ -266,11 +283,13 @@ fn range_status(l: Limits, n: u64) -> u8
 pub fn status_of(l: Limits, s: Sample) -> u8
     ensures { result ≡ status_of l s }
 {
-    match s.kind {
+    let kind = s.kind;
+    match kind {
         0 => 0,
         1 => range_status(l, s.number),
         2 => 4,
         3 => 5,
+        4 => 6,
         _ => 6,
     }
 }
@@ -287,6 +306,7 @@ pub fn put_arg_status(out: &mut [u8], at: usize, status: u8) -> usize
         3 => message::put_arg(out, at, b"error"),
         4 => message::put_arg(out, at, b"failure"),
         5 => message::put_arg(out, at, b"unreachable"),
+        6 => message::put_arg(out, at, b"inactive"),
         _ => message::put_arg(out, at, b"inactive"),
     }
 }
@@ -308,6 +328,7 @@ pub fn put_arg_value(
         2 => message::put_arg_number(out, at, Notation::Float, n),
         3 => message::put_arg_number(out, at, Notation::Decimal, n),
         4 => message::put_arg_prefix(out, at, option, len),
+        5 => message::put_arg_number(out, at, Notation::Time, n),
         _ => message::put_arg_number(out, at, Notation::Time, n),
     }
 }

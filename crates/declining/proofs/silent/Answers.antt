@@ -2,4 +2,4 @@
 use Rattle.declining.proofs.silent.Goals as goal
 
 pub returns : goal.returns
-returns c = rw c.number.ensures
+returns g c = rw c.number.ensures

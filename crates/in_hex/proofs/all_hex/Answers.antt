@@ -1,12 +1,18 @@
--- The chain's test of each byte is the definition's.
-use Rattle.std.proofs.Common.{rules, tests}
-use Rattle.std.proofs.lemmas.Iterator.{YieldsList-from_slice}
-use Rattle.std.proofs.lemmas.Iterator.Search.{all_from_yields_List}
-use mathlib.Core.Path.{◌∙◌}
+-- What is found so far, and the test of the rest, is the test of the whole.
+use native.Mathlib.Omega.{arith}
+use Prim.Native.Nat.{◌+◌, ◌≤◌}
+use lib.ListN.{length, drop, drop_of_length-le}
+use Rattle.output.specs.Text.{all}
+use Rattle.texts.proofs.At.{at}
+use Rattle.texts.proofs.PassLaws.{found_on, found_end}
 use Rattle.in_hex.specs.Hex.{is_hex}
-use Rattle.texts.proofs.ChainLaws.{all_bytes}
 use Rattle.in_hex.proofs.all_hex.Goals as goal
+
+pub loop-b-preserved : goal.loop-b-preserved
+loop-b-preserved c = let t = c.args.t.now in
+    (omega arith, rw c.is_hex-ok.ensures (found_on c.loop-b.ok _ (all is_hex (drop (c.loop-b.b-index + 1) t)) (all is_hex (drop c.loop-b.b-index t)) _ c.loop-b.invariant.1 (rw (at t c.loop-b.b-index (omega arith)))))
 
 pub returns : goal.returns
 returns c = let t = c.args.t.now in
-    all_from_yields_List is_hex _ _ c.all.result c.all.ensures.ran (YieldsList-from_slice t cc) (λ x b q k. search (rules, tests)) ∙ all_bytes is_hex t
+    let h : length t ≤ c.loop-b.b-index = omega arith in
+    found_end c.loop-b.ok (all is_hex (drop c.loop-b.b-index t)) _ c.loop-b.invariant.1 (rw (drop_of_length-le t h))

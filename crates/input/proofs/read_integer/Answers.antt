@@ -1,7 +1,5 @@
 -- What the machine has after each cast.
-use Rattle.std.proofs.Common.{rules}
-use Rattle.std.specs.Prelude.{Some}
-use mathlib.Core.Path.{◌≡◌, sym, ◌∙◌}
+use mathlib.Core.Path.{◌∙◌}
 use Rattle.output.specs.Read.{read_integer}
 use Rattle.input.proofs.SignedLaws as signed
 use Rattle.input.proofs.read_integer.Goals as goal

@@ -14,7 +14,7 @@ loop-k-init c = refl
 
 pub loop-k-preserved : goal.loop-k-preserved
 loop-k-preserved c = let turn = c.loop-k in
-    rw (turn.invariant, c.choice_key.ensures) (filled_one (option_key c.args.options.now) (replicate 32 0) turn.k (omega arith))
+    rw (turn.invariant, c.choice_key.ensures) (filled_one (option_key c.args.options) (replicate 32 0) turn.k (omega arith))
 
 pub returns : goal.returns
 unfolding choice_keys

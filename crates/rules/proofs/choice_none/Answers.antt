@@ -1,15 +1,13 @@
--- What is found so far, and the test of the rest, is the test of the whole.
-use native.Mathlib.Omega.{arith}
+-- The text is zero where its number is.
+use mathlib.Core.Path.{◌≡◌}
+use lib.ListN.{length}
+use borrow.Author.Rules.{rules}
 use Rattle.machine.specs.Sheet.{choice_none}
-use Rattle.rules.proofs.BytesLaws.{passing, passing_on, passing_end}
+use Rattle.rules.proofs.EmptyLaws.{zero_number}
 use Rattle.rules.proofs.choice_none.Goals as goal
-
-pub loop-b-init : goal.loop-b-init
-loop-b-init c = passing _ _
-
-pub loop-b-preserved : goal.loop-b-preserved
-loop-b-preserved c = passing_on c.loop-b.invariant (omega arith)
 
 pub returns : goal.returns
 unfolding choice_none
-returns c = rw (passing_end c.loop-b.invariant (omega arith))
+returns c = let o = c.args.o in
+    let h : length o.text ≡ 16 = search rules in
+    rw c.from_le_bytes-text.ensures (cc (zero_number o.text h))

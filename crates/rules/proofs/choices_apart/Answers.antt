@@ -11,4 +11,4 @@ returns-then-keys_apart c =
     let keys = c.choice_keys-keys.result in
     let long : length keys ≡ 32 = search rules in
     let once = once_each keys c.from.result c.keys_apart.result (omega arith) c.keys_apart.ensures in
-    sym (choices_by_keys c.args.count c.args.options.now c.requires (rw (c.choice_keys-keys.ensures, c.from.ensures) at (sym once ∙ c.if-keys_apart.true)))
+    sym (choices_by_keys c.args.count c.args.options c.requires (rw (c.choice_keys-keys.ensures, c.from.ensures) at (sym once ∙ c.if-keys_apart.true)))

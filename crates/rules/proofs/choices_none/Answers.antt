@@ -5,13 +5,13 @@ use mathlib.Core.Path.{◌≡◌, refl}
 use Rattle.machine.specs.Places.{all_below}
 use Rattle.rules.proofs.choices_none.Goals as goal
 
-pub loop-o-init : goal.loop-o-init
+pub loop-k-init : goal.loop-k-init
 unfolding all_below
-loop-o-init c = refl
+loop-k-init c = refl
 
-pub loop-o-preserved : goal.loop-o-preserved
+pub loop-k-preserved : goal.loop-k-preserved
 unfolding all_below
-loop-o-preserved c = rw (add-one, c.loop-o.invariant, c.choice_none-ok.ensures)
+loop-k-preserved c = rw (add-one, c.loop-k.invariant, c.choice_none-ok.ensures)
 
 pub returns : goal.returns
-returns c = let e : c.loop-o.o-index ≡ 8 = omega arith in rw (c.loop-o.invariant, e)
+returns c = let e : c.loop-k.k ≡ 8 = omega arith in rw (c.loop-k.invariant, e)

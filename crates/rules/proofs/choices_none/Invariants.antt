@@ -5,5 +5,5 @@ use Rattle.machine.specs.Places.{all_below}
 use Rattle.machine.specs.Sheet.{no_choice, choice_none}
 use Rattle.rules.proofs.choices_none.Given as goal
 
-abbrev pub invariant-loop-o : goal.invariant-loop-o
-invariant-loop-o l = l.ok ≡ all_below (λ k. choice_none (get_or l.options k no_choice)) l.o-index
+abbrev pub invariant-loop-k : goal.invariant-loop-k
+invariant-loop-k l = l.ok ≡ all_below (λ k. choice_none (get_or l.options k no_choice)) l.k

@@ -11,7 +11,7 @@ use Rattle.machine.specs.Sheet.{sensor_ok_at, sensors_ok}
 use Rattle.machine.proofs.StoreLaws.{filled_one}
 use Rattle.rules.specs.Keys.{name_keys}
 use Rattle.rules.specs.Found.{sensors_found}
-use Rattle.rules.proofs.ElementLaws.{names_long, sheet_options_long}
+use Rattle.rules.proofs.ElementLaws.{names_long}
 use Rattle.rules.proofs.DistinctLaws.{sensors_are, sensors_keyed}
 use Rattle.rules.proofs.KeyLaws.{once_each}
 use Rattle.rules.proofs.FoundLaws.{kind_at, options_at, key_at, all_written}
@@ -32,9 +32,6 @@ loop-j-preserved c = let turn = c.loop-j in let sheet = c.args.sheet in
       options = rw turn.invariant.options (filled_one (options_at sheet) (replicate 32 0) turn.j below);
       keys = rw (turn.invariant.keys, c.name_key.ensures) (filled_one (key_at sheet) (replicate 32 0) turn.j below);
     }
-
-pub sensor_ok_at-ok-requires : goal.sensor_ok_at-ok-requires
-sensor_ok_at-ok-requires c = sheet_options_long c.args.sheet _ c.well_formed.0 c.loop-j.j (omega arith)
 
 pub returns : goal.returns
 unfolding sensors_found name_keys

@@ -4,4 +4,4 @@ use Rattle.rules.proofs.titles_none.Goals as goal
 
 pub returns : goal.returns
 unfolding titles_none
-returns c = c.titles_fit.ensures
+returns c = rw (c.text_ok-first.ensures, c.text_ok-second.ensures)

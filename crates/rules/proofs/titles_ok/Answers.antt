@@ -4,4 +4,4 @@ use Rattle.rules.proofs.titles_ok.Goals as goal
 
 pub returns : goal.returns
 unfolding titles_ok
-returns c = c.titles_fit.ensures
+returns c = rw (c.text_ok-first.ensures, c.text_ok-second.ensures)

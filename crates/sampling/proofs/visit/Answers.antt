@@ -1,17 +1,17 @@
 -- The invariant: the places before p are passed, and p is a place of the visit or behind all of them. The measure is the places that are left.
 use Prim.Native.Nat.{◌<◌}
 use native.Mathlib.Omega.{arith}
-use mathlib.Core.Path.{◌≡◌, refl, sym, ◌∙◌}
+use mathlib.Core.Path.{refl, sym, ◌∙◌}
 use mathlib.Core.Bool.{true, false}
-use lib.ListN.{length}
 use borrow.Author.Rules.{rules}
 use Rattle.machine.proofs.ArrayLaws.{subscriptions_many}
-use Rattle.sampling.specs.Visits.{moment}
+use Rattle.sampling.specs.Visits.{moment, first_place}
 use Rattle.sampling.proofs.VisitLaws.{first_come, next_come, next_behind, turn_asked, turn_not, turn_reports, turn_silent, visited}
 use Rattle.sampling.proofs.visit.Goals as goal
 use Rattle.sampling.proofs.visit.Goals.{then-there-can_report+then-is_due, then-there-can_report+else-is_due, else-there-can_report}
 
 pub loop-p-init : goal.loop-p-init
+unfolding first_place
 loop-p-init c = search (first_come, subscriptions_many, rules)
 
 pub loop-p-smaller : goal.loop-p-smaller
@@ -22,7 +22,7 @@ pub loop-p-preserved : goal.loop-p-preserved
 loop-p-preserved c =
     let loop = c.loop-p in
     let test : loop.p < 256 = c.loop-p-test.true in
-    let all : length c.args.s.subscriptions ≡ 256 = search (subscriptions_many, rules) in
+    let all = subscriptions_many c.args.s _ c.well_formed.1.1.0 in
     let reading = c.by_reading-reading in
     let can = c.can_report in
     next_come all test loop.invariant c.next_place-p.ensures
@@ -40,6 +40,13 @@ loop-p-preserved c =
 
 pub returns : goal.returns
 returns c =
-    let many : length c.args.s.subscriptions ≡ 256 = search (subscriptions_many, rules) in
-    let all = visited (moment c.args.s c.args.clock c.args.readings) c.args.cause many c.loop-p.invariant c.loop-p-test.false in
+    let all =
+    visited
+    c.args.visiting
+    (moment c.args.s c.args.clock c.args.readings)
+    c.args.cause
+    (subscriptions_many c.args.s _ c.well_formed.1.1.0)
+    c.loop-p.invariant
+    c.loop-p-test.false
+    in
     record { number_value = refl; state_value = all.0; sent = all.1 }

@@ -18,4 +18,4 @@ slice_bounds-open-end c = let held-sheet : Held 1 c.args.line.now c.put_bytes_of
 
 pub returns : goal.returns
 returns c = let held-sheet : Held 1 c.args.line.now c.put_bytes_of-n.new.into c.put_bytes_of-n.result = held 1 c.word.ensures c.put_bytes_of-n.ensures c.requires in
-    c.quiet.ensures ∙ ap (λ (o : Opened). quiet o.number o.state) (c.open-opened.ensures ∙ ap (λ (bs : List ℕ). opened (start_of c.args.profile bs)) held-sheet.bytes)
+    c.silent.ensures ∙ ap (λ (o : Opened). quiet o.number o.state) (c.open-opened.ensures ∙ ap (λ (bs : List ℕ). opened (start_of c.args.profile bs)) held-sheet.bytes)

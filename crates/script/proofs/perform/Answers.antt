@@ -6,7 +6,7 @@ use Rattle.script.proofs.ReplayLaws.{too_long, made}
 use Rattle.script.proofs.perform.Goals as goal
 
 pub returns-then-line-gt-LONGEST_LINE : goal.returns-then-line-gt-LONGEST_LINE
-returns-then-line-gt-LONGEST_LINE c = let s = c.args in let all = too_long s.state s.line.now s.out.now c.if-line-gt-LONGEST_LINE.true c.quiet.ensures in record {
+returns-then-line-gt-LONGEST_LINE c = let s = c.args in let all = too_long s.state s.line.now s.out.now c.if-line-gt-LONGEST_LINE.true c.silent.ensures in record {
   value = all.0;
   out_after = all.1;
 }

@@ -6,7 +6,7 @@ use Rattle.std.proofs.lemmas.Iterator.Search.{YieldsList-from_take_while}
 use Rattle.std.proofs.lemmas.List.Folds.{length-prefix_len}
 use mathlib.Core.Path.{◌∙◌}
 use Rattle.texts.proofs.ChainLaws.{prefix_run}
-use Rattle.texts.proofs.run_len.Goals as goal
+use Rattle.texts.proofs.run_where.Goals as goal
 
 pub returns : goal.returns
 returns g c test h = let s = c.args.s.now in
