@@ -267,9 +267,11 @@ fn rest_at(s: &[u8], sensor: Sensor) -> Option<(Sensor, &[u8])>
     ensures { reads.read result ≡ opening.rest_at sensor s.now }
 {
     match sensor.kind {
-        1 | 2 => limited(s, sensor),
-        3 | 5 => Some((sensor, s)),
+        1 => limited(s, sensor),
+        2 => limited(s, sensor),
+        3 => Some((sensor, s)),
         4 => options_at(s, sensor),
+        5 => Some((sensor, s)),
         _ => None,
     }
 }
